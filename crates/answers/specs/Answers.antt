@@ -6,16 +6,16 @@ use Rattle.serde_json.specs.Data.{Data, null, number, string, array, object, no_
 use Rattle.serde_json.specs.Find.{of_integer}
 use Rattle.serde_json.specs.View.{items_of}
 use Rattle.network.specs.Problem.{Problem, rules}
-use Rattle.network.specs.Schedule.{IsLeastSchedule, IsFeasible, makespan, IsLowerBound, IsShortest, HasNoSchedule}
+use Rattle.network.specs.Schedule.{IsLeastSchedule, IsFeasible, makespan, IsLowerBound, IsShortest, HasNoSchedule, IsTrueVerdict}
 use Rattle.network.specs.Walk.{IsLeastCycleTop}
 use Rattle.sch_reader.specs.Text.{canonical_text}
 use Rattle.schedule_check.specs.declared.violation.Violation.{Violation}
 use Rattle.schedule_check.specs.declared.violation.Violation.TheVariants as violation
 use Rattle.schedule_check.specs.Violations.{violations}
 use Rattle.record_text.specs.Kinds.{Kind, RecordOf}
-use Rattle.record_text.specs.FirstWrong.{Judge, IsRightBy, IsFactOf}
-use Rattle.record_text.specs.declared.proved.Proved.{Proved}
-use Rattle.record_text.specs.declared.proved.Proved.TheVariants as proved
+use Rattle.record_text.specs.FirstWrong.{Judge, IsRightBy}
+use Rattle.network.specs.declared.verdict.Verdict.{Verdict}
+use Rattle.network.specs.declared.verdict.Verdict.TheVariants as verdict
 
 -- ---- An answer as one line of JSON.
 
@@ -90,8 +90,12 @@ IsEarliestText p exit written = IsLeastText p exit written ⊎ IsCycleText p exi
 -- a line for a broken rule or an overload
 abbrev pub violation_line : Violation → List ℕ
 violation_line (violation.StartNotZero found) = codes "start " ++ (signed_decimal found ++ codes "\n")
-violation_line (violation.Lag from to weight) = codes "lag " ++ (decimal from ++ (codes " " ++ (decimal to ++ (codes " " ++ (signed_decimal weight ++ codes "\n")))))
-violation_line (violation.Overload time resource used) = codes "overload " ++ (signed_decimal time ++ (codes " " ++ (decimal resource ++ (codes " " ++ (decimal used ++ codes "\n")))))
+violation_line (violation.Lag from to weight) =
+    codes "lag " ++ (decimal from ++ (codes " " ++
+    (decimal to ++ (codes " " ++ (signed_decimal weight ++ codes "\n")))))
+violation_line (violation.Overload time resource used) =
+    codes "overload " ++ (signed_decimal time ++
+    (codes " " ++ (decimal resource ++ (codes " " ++ (decimal used ++ codes "\n")))))
 
 abbrev pub violations_text : List Violation → List ℕ
 violations_text found = flat_map violation_line found
@@ -123,17 +127,17 @@ pub record IsTidyText (p : Problem) (exit : ℕ) (written : List ℕ) : Type 0 w
 
 -- ---- what `verify` says
 
-abbrev pub proved_line : Proved → List ℕ
-proved_line (proved.Optimal makespan) = codes "proved optimal " ++ (signed_decimal makespan ++ codes "\n")
-proved_line (proved.Bound bound) = codes "proved bound " ++ (signed_decimal bound ++ codes "\n")
-proved_line proved.NoSchedule = codes "proved no schedule\n"
+abbrev pub proved_line : Verdict → List ℕ
+proved_line (verdict.Optimal makespan) = codes "proved optimal " ++ (signed_decimal makespan ++ codes "\n")
+proved_line (verdict.Bound bound) = codes "proved bound " ++ (signed_decimal bound ++ codes "\n")
+proved_line verdict.NoSchedule = codes "proved no schedule\n"
 
 -- the record is right for the project: what it claims, which is true
 pub record IsProvedText
     {Claim Line : Type 0} (k : Kind Claim Line) (j : Judge Claim Line) (p : Problem) (shown : RecordOf Claim Line)
     (written : List ℕ) : Type 0 where
   pub right : IsRightBy j p shown
-  pub true_of : IsFactOf p (k.says shown.claim)
+  pub true_of : IsTrueVerdict p (k.says shown.claim)
   pub text : written ≡ proved_line (k.says shown.claim)
 
 -- ---- what `solve` says

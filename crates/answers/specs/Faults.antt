@@ -7,68 +7,57 @@ use Rattle.schedule_check.specs.declared.fault.StartsFault.TheVariants as starts
 use Rattle.record_text.specs.declared.fault.RecordFault.{RecordFault}
 use Rattle.record_text.specs.declared.fault.RecordFaultKind.{RecordFaultKind}
 use Rattle.record_text.specs.declared.fault.RecordFaultKind.TheVariants as why
+use Rattle.lemma_record.specs.declared.fault.EventFault.{EventFault}
+use Rattle.lemma_record.specs.declared.fault.Wrong.{Wrong}
+use Rattle.lemma_record.specs.declared.fault.Wrong.TheVariants as wrong
 use Rattle.answers.specs.declared.fault.Fault.{Fault}
 use Rattle.answers.specs.declared.fault.Fault.TheVariants as faults
 
 -- the fault of a project text
 abbrev pub fault_of : SchFault → Fault
-fault_of texts.TooLong = faults.TooLong
-fault_of (texts.Token index) = faults.Token index
-fault_of (texts.Short index) = faults.Short index
-fault_of (texts.Trailing index) = faults.Trailing index
-fault_of texts.NotRenewable = faults.NotRenewable
-fault_of (texts.Modes row) = faults.Modes row
-fault_of (texts.RowNumber row found) = faults.RowNumber row found
-fault_of (texts.Activity row found) = faults.Activity row found
-fault_of (texts.Range index) = faults.Range index
-fault_of (texts.Dummy row) = faults.Dummy row
 fault_of texts.Memory = faults.Memory
+fault_of cause = faults.Project cause
 
 -- the fault of a text of starts
 abbrev pub starts_fault_of : StartsFault → Fault
-starts_fault_of starts.TooLong = faults.TooLong
-starts_fault_of (starts.Token line) = faults.StartsToken line
-starts_fault_of (starts.Activity line) = faults.StartsActivity line
-starts_fault_of (starts.Repeated line) = faults.Repeated line
-starts_fault_of (starts.Missing activity) = faults.Missing activity
 starts_fault_of starts.Memory = faults.Memory
+starts_fault_of cause = faults.Starts cause
 
--- what is wrong with a line of a record
-abbrev pub line_fault : ℕ → RecordFaultKind → Fault
-line_fault line why.Form = faults.RecordForm line
-line_fault line why.Short = faults.RecordShort line
-line_fault line why.Trailing = faults.RecordTrailing line
-line_fault line why.Start = faults.RecordStart line
-line_fault line why.Force = faults.RecordForce line
-line_fault line why.Set = faults.RecordSet line
-line_fault line why.Leaf = faults.RecordLeaf line
-line_fault line why.Lemma = faults.RecordLemma line
-line_fault line why.Add = faults.RecordAdd line
-line_fault line why.End = faults.RecordEnd line
-line_fault line why.Memory = faults.Memory
-line_fault line why.TooLong = faults.TooLong
+-- a fault of this kind of a record of a tree
+abbrev pub kind_fault : RecordFault → RecordFaultKind → Fault
+kind_fault fault why.Memory = faults.Memory
+kind_fault fault why.TooLong = faults.TooLong
+kind_fault fault kind = faults.Record fault
 
--- the fault of a record's text, or of what the record says
+-- the fault of a record of a tree: of its text, or of what it says
 abbrev pub record_fault_of : RecordFault → Fault
-record_fault_of fault = line_fault fault.line fault.why
+record_fault_of fault = kind_fault fault fault.kind
+
+-- what is wrong with an event of a record of lemmas
+abbrev pub wrong_fault : EventFault → Wrong → Fault
+wrong_fault fault wrong.Memory = faults.Memory
+wrong_fault fault kind = faults.Event fault
+
+-- the fault of a record of lemmas
+abbrev pub event_fault_of : EventFault → Fault
+event_fault_of fault = wrong_fault fault fault.wrong
+
+-- the exit status where a record of a tree has a fault of this kind: 2 for its text, and else 4
+abbrev pub record_exit : RecordFaultKind → ℕ
+record_exit why.Form = 2
+record_exit why.Short = 2
+record_exit why.Trailing = 2
+record_exit kind = 4
 
 -- the exit status: 1 for memory, threads and devices, 2 for a text that isn't what it should be, 4 for a
 -- record that isn't right
 abbrev pub exit_of : Fault → ℕ
-exit_of faults.Memory = 1
-exit_of faults.ReadFailed = 1
-exit_of faults.WriteFailed = 1
-exit_of faults.Thread = 1
-exit_of faults.OtherProject = 1
-exit_of faults.Refused = 1
-exit_of (faults.RecordStart line) = 4
-exit_of (faults.RecordForce line) = 4
-exit_of (faults.RecordSet line) = 4
-exit_of (faults.RecordLeaf line) = 4
-exit_of (faults.RecordLemma line) = 4
-exit_of (faults.RecordAdd line) = 4
-exit_of (faults.RecordEnd line) = 4
-exit_of fault = 2
+exit_of faults.TooLong = 2
+exit_of (faults.Project cause) = 2
+exit_of (faults.Starts cause) = 2
+exit_of (faults.Record cause) = record_exit cause.kind
+exit_of (faults.Event cause) = 4
+exit_of fault = 1
 
 -- it is not that a device failed
 abbrev pub IsNoDeviceFault : Fault → Type 0

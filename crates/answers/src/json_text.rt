@@ -5,7 +5,9 @@ ghost use Rattle.json.specs.Print.{escape};
 ghost use Rattle.serde_json.specs.View.{view};
 ghost use Rattle.serde_json.specs.Written.{compact_text, has_float};
 ghost use Rattle.answers.specs.Answers.{number_data, list_data, answer_data, json_line};
+ghost use Rattle.answers.specs.Figured.{figured_data, figured_line};
 
+use crate::VERSION;
 use serde_json::{Value, json};
 use std::alloc::{AllocError, Global};
 
@@ -77,5 +79,60 @@ pub fn json_line(
         ≡ json_line bound makespan (option_map (λ n. n.now) starts.entry) status.now) }
 {
     let value = answer_value(alloc, bound, makespan, starts, status)?;
+    line_of(alloc, &value)
+}
+
+/// How much a search of psprove did, and how long the record is that shows what it found.
+#[derive(Clone, Copy, PartialEq, Eq, Debug)]
+pub struct Figures {
+    pub conflicts: u64,
+    pub decisions: u64,
+    /// How many bytes the record has.
+    pub record_bytes: u64,
+    /// Whole seconds by the clock, from the start of the search to its end.
+    pub seconds: u64,
+}
+
+/// The answer with the figures as a value.
+fn figured_value(
+    alloc: Global,
+    figures: &Figures,
+    bound: Option<i64>,
+    makespan: Option<i64>,
+    starts: Option<&[i64]>,
+    status: &str,
+) -> Result<Value, AllocError>
+    ensures { IfOk result (λ v. view v
+        ≡ figured_data figures.now bound makespan (option_map (λ n. n.now) starts.entry) status.now) }
+{
+    let bound = number_or_null(bound);
+    let makespan = number_or_null(makespan);
+    let starts = list_or_null(alloc, starts)?;
+    json!(in alloc; {
+        "bound": bound,
+        "conflicts": figures.conflicts,
+        "decisions": figures.decisions,
+        "makespan": makespan,
+        "record_bytes": figures.record_bytes,
+        "seconds": figures.seconds,
+        "starts": starts,
+        "status": status,
+        "version": VERSION
+    })
+}
+
+/// The answer with the figures as one line of JSON.
+pub(crate) fn figured_line(
+    alloc: Global,
+    figures: &Figures,
+    bound: Option<i64>,
+    makespan: Option<i64>,
+    starts: Option<&[i64]>,
+    status: &str,
+) -> Result<String, AllocError>
+    ensures { IfOk result (λ t. string_bytes t
+        ≡ figured_line figures.now bound makespan (option_map (λ n. n.now) starts.entry) status.now) }
+{
+    let value = figured_value(alloc, figures, bound, makespan, starts, status)?;
     line_of(alloc, &value)
 }

@@ -9,6 +9,9 @@ mod texts;
 
 pub use answer::Answer;
 pub use fault::Fault;
-pub use json_text::json_line;
-pub use solved::solved_answer;
+pub use json_text::{Figures, json_line};
+pub use solved::{figured_answer, solved_answer};
 pub use texts::{cycle_text, feasible_text, proved_text, starts_text, violations_text};
+
+/// The version of both programs.
+pub const VERSION: &str = "1.0.0";

@@ -4,9 +4,10 @@ ghost use Rattle.std.specs.Prelude.{◌≡◌, ◌++◌, IfOk, string_bytes, cod
 ghost use Rattle.network.specs.Schedule.{makespan};
 ghost use Rattle.answers.specs.Answers.{stopped_text, bound_text, optimal_text, no_schedule_text, feasible_text, unknown_text};
 ghost use Rattle.answers.specs.Outcomes.{SaysOutcome};
+ghost use Rattle.answers.specs.Figured.{SaysFigures};
 
 use crate::answer::Answer;
-use crate::json_text::json_line;
+use crate::json_text::{Figures, figured_line, json_line};
 use crate::texts::{put_starts, starts_text};
 use network::Schedule;
 use plain_search::Outcome;
@@ -92,5 +93,28 @@ pub fn solved_answer(alloc: Global, outcome: &Outcome, json: bool) -> Result<Ans
         } => (feasible_text(alloc, best, *bound, json)?, 3),
         Outcome::Stopped { best: None, bound } => (unknown_text(alloc, *bound, json)?, 3),
     };
+    Ok(Answer::of(text, exit))
+}
+
+/// The answer that an outcome makes, as one line of JSON with the figures of the search.
+pub fn figured_answer(
+    alloc: Global,
+    outcome: &Outcome,
+    figures: &Figures,
+) -> Result<Answer, AllocError>
+    ensures { IfOk result (λ a. SaysFigures figures.now outcome.now a.exit a.text.items) }
+{
+    let (best, bound, status, exit) = match outcome {
+        Outcome::Optimal(best) => (Some(best), Some(best.makespan()), "optimal", 0),
+        Outcome::NoSchedule => (None, None, "no schedule", 0),
+        Outcome::Stopped {
+            best: Some(best),
+            bound,
+        } => (Some(best), Some(*bound), "feasible", 3),
+        Outcome::Stopped { best: None, bound } => (None, Some(*bound), "unknown", 3),
+    };
+    let makespan = best.map(Schedule::makespan);
+    let starts = best.map(Schedule::starts);
+    let text = figured_line(alloc, figures, bound, makespan, starts, status)?;
     Ok(Answer::of(text, exit))
 }

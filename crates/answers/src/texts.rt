@@ -4,7 +4,7 @@ ghost use Rattle.std.specs.Prelude.{◌≡◌, ◌++◌, ◌∷◌, [], ◌<◌,
 ghost use Rattle.std.specs.Fmt.{decimal};
 ghost use Rattle.answers.specs.Answers.{starts_text, cycle_line, feasible_line, proved_line, start_lines, violation_line, violations_text};
 
-use record_text::Proved;
+use network::Verdict;
 use schedule_check::Violation;
 use std::alloc::{AllocError, Global};
 
@@ -83,14 +83,14 @@ pub fn violations_text(alloc: Global, found: &[Violation]) -> Result<String, All
 }
 
 /// What a record proves of a project.
-pub fn proved_text(alloc: Global, proved: Proved) -> Result<String, AllocError>
+pub fn proved_text(alloc: Global, proved: Verdict) -> Result<String, AllocError>
     ensures { IfOk result (λ t. string_bytes t ≡ proved_line proved) }
 {
     let mut out = String::new(alloc);
     match proved {
-        Proved::Optimal { makespan } => writeln!(out, "proved optimal {makespan}")?,
-        Proved::Bound { bound } => writeln!(out, "proved bound {bound}")?,
-        Proved::NoSchedule => writeln!(out, "proved no schedule")?,
+        Verdict::Optimal { makespan } => writeln!(out, "proved optimal {makespan}")?,
+        Verdict::Bound { bound } => writeln!(out, "proved bound {bound}")?,
+        Verdict::NoSchedule => writeln!(out, "proved no schedule")?,
     }
     Ok(out)
 }

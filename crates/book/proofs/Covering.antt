@@ -1,6 +1,7 @@
 -- A book's nodes go on to cover what is shorter than its best, as they move, as they are cut, and as one gives way to
 -- its children.
-use Rattle.std.proofs.Common.{◌≡◌, ◌∙◌, ◌<ℤ◌, ℕ, ℤ, Bool, true, false, cond, List, [], ◌∷◌, ◌++◌, Option, Some, None, refl, sym, ap, subst, length, inl, inr, ⊎_elim, ◌⊎◌, arith, IfSome}
+use Rattle.std.proofs.Common.{◌≡◌, ◌∙◌, ◌<ℤ◌, ℕ, ℤ, Bool, true, false, cond, List, [], ◌∷◌, ◌++◌, Option, Some, None}
+use Rattle.std.proofs.Common.{refl, sym, ap, subst, length, inl, inr, ⊎_elim, ◌⊎◌, arith, IfSome}
 use Rattle.std.specs.List.{All, Contains, filter}
 use Rattle.std.specs.List.Sorted.{IsPermutation}
 use Rattle.std.proofs.lemmas.Int.{ints}
@@ -21,7 +22,8 @@ use Rattle.search_log.specs.RightTrail.{children_below}
 use Rattle.book.proofs.Names.{all_left, all_right, nodes_of_named}
 
 -- nodes may change places
-pub covered_moved : (p : Problem) (best : Option ScheduleOf) (old new : List Named) → IsPermutation old new → IsCovered p best (nodes_of old) → IsCovered p best (nodes_of new)
+pub covered_moved : (p : Problem) (best : Option ScheduleOf) (old new : List Named) → IsPermutation old new
+    → IsCovered p best (nodes_of old) → IsCovered p best (nodes_of new)
 covered_moved p best old new moved covered =
     let nodes = IsPermutation-map (λ (n : Named). n.node) old new moved in
     covered_still p best (nodes_of old) (nodes_of new) (All-permutation (IsNodeOf p) (nodes_of old) (nodes_of new) nodes covered.of_nodes)
@@ -31,18 +33,24 @@ not_both : (limit : Option ℤ) (bound : ℤ) → Reaches limit bound → IsUnde
 not_both None bound reaches under = reaches
 not_both (Some limit) bound reaches under = omega (arith, ints)
 
-each_reaches : (limit : Option ℤ) (nodes : List Named) → All (λ (n : Named). Reaches limit n.node.bound) nodes → All (λ (n : Subproblem). Reaches limit n.bound) (nodes_of nodes)
+each_reaches : (limit : Option ℤ) (nodes : List Named) → All (λ (n : Named). Reaches limit n.node.bound) nodes
+    → All (λ (n : Subproblem). Reaches limit n.bound) (nodes_of nodes)
 each_reaches limit nodes all = All-map (λ (n : Subproblem). Reaches limit n.bound) (λ (n : Named). n.node) nodes all
 
 -- nodes that can't lead to a shorter schedule may be cut
-pub covered_cut : (p : Problem) (best : Option ScheduleOf) (waiting held : List Named) → All (λ (n : Named). Reaches (ceiling_of best) n.node.bound) waiting → IsCovered p best (nodes_of (waiting ++ held)) → IsCovered p best (nodes_of held)
+pub covered_cut : (p : Problem) (best : Option ScheduleOf) (waiting held : List Named)
+    → All (λ (n : Named). Reaches (ceiling_of best) n.node.bound) waiting
+    → IsCovered p best (nodes_of (waiting ++ held)) → IsCovered p best (nodes_of held)
 covered_cut p best waiting held reached covered =
     let parts : nodes_of (waiting ++ held) ≡ nodes_of waiting ++ nodes_of held = map-append (λ (n : Named). n.node) waiting held in
     let all : All (IsNodeOf p) (nodes_of waiting ++ nodes_of held) = subst (λ (ns : List Subproblem). All (IsNodeOf p) ns) parts covered.of_nodes in
     covered_still p best (nodes_of (waiting ++ held)) (nodes_of held) (all_right (IsNodeOf p) (nodes_of waiting) (nodes_of held) all)
     (λ node among under.
     ⊎_elim
-    (λ (cut : Contains (nodes_of waiting) node). absurd (not_both (ceiling_of best) node.bound (All-contains (λ (n : Subproblem). Reaches (ceiling_of best) n.bound) (nodes_of waiting) node (each_reaches (ceiling_of best) waiting reached) cut) under))
+    (λ (cut : Contains (nodes_of waiting) node).
+    absurd (not_both (ceiling_of best) node.bound
+    (All-contains (λ (n : Subproblem). Reaches (ceiling_of best) n.bound) (nodes_of waiting) node
+    (each_reaches (ceiling_of best) waiting reached) cut) under))
     (λ (kept : Contains (nodes_of held) node). kept)
     (Contains-append_cases (nodes_of waiting) (nodes_of held) node (subst (λ (ns : List Subproblem). Contains ns node) parts among)))
     covered
@@ -72,7 +80,9 @@ improved_is_shorter old found new false (reached, now) = record {
   from = subst (λ (o : Option ScheduleOf). IfSome o (λ s. (Some s ≡ old) ⊎ (Some s ≡ found))) (sym now) (of_old old);
 }
   where
-    not_found : (found : Option ScheduleOf) (s : List ℤ) → IfSome found (λ schedule. Reaches (ceiling_of old) (makespan schedule.starts)) → IsShorterThan old s → IsShorterThan found s
+    not_found : (found : Option ScheduleOf) (s : List ℤ)
+        → IfSome found (λ schedule. Reaches (ceiling_of old) (makespan schedule.starts)) → IsShorterThan old s
+        → IsShorterThan found s
     not_found None s reached shorter = tt
     not_found (Some schedule) s reached shorter = not_longer old (makespan schedule.starts) s reached shorter
 
@@ -81,7 +91,8 @@ improved_is_shorter old found new false (reached, now) = record {
     of_old (Some s) = inl refl
 
 -- a feasible schedule may become the best
-pub covered_improved : (p : Problem) (best found new : Option ScheduleOf) (improved : Bool) (nodes : List Subproblem) → Improves best found improved new → IfSome found (IsScheduleFor p) → IsCovered p best nodes → IsCovered p new nodes
+pub covered_improved : (p : Problem) (best found new : Option ScheduleOf) (improved : Bool) (nodes : List Subproblem)
+    → Improves best found improved new → IfSome found (IsScheduleFor p) → IsCovered p best nodes → IsCovered p new nodes
 covered_improved p best found new improved nodes improves of_found covered =
     let shorter_of = improved_is_shorter best found new improved improves in
     record {
@@ -127,27 +138,42 @@ stays p (y ∷ ys) x passes among =
     others false later = later
 
 -- a child that may lead to a shorter schedule is opened
-child_stays : (limit : Option ℤ) (children : List Subproblem) (child : Subproblem) → Contains children child → IsUnder limit child.bound → Contains (children_below limit children) child
+child_stays : (limit : Option ℤ) (children : List Subproblem) (child : Subproblem) → Contains children child
+    → IsUnder limit child.bound → Contains (children_below limit children) child
 child_stays limit children child among under = stays (λ (k : Subproblem). is_below limit k.bound) children child (under_is_below limit child.bound under) among
 
 -- the node gives way to those of its children that are below the new best
-pub covered_expanded : (p : Problem) (best new : Option ScheduleOf) (improved : Bool) (first : ℕ) (held : Named) (rest : List Named) (report : Expansion) → IsFair report → report.node.project ≡ p → held.node.pairs ≡ report.node.pairs → IsInTime report.ceiling (ceiling_of best) → Improves best report.found improved new → IsCovered p best (nodes_of (held ∷ rest)) → IsCovered p new (nodes_of (named_from first (children_below (ceiling_of new) report.children) ++ rest))
+pub covered_expanded : (p : Problem) (best new : Option ScheduleOf) (improved : Bool) (first : ℕ) (held : Named)
+    (rest : List Named) (report : Expansion) → IsFair report → report.node.project ≡ p
+    → held.node.pairs ≡ report.node.pairs → IsInTime report.ceiling (ceiling_of best)
+    → Improves best report.found improved new → IsCovered p best (nodes_of (held ∷ rest))
+    → IsCovered p new (nodes_of (named_from first (children_below (ceiling_of new) report.children) ++ rest))
 covered_expanded p best new improved first held rest report fair project pairs in_time improves covered =
     let shorter_of = improved_is_shorter best report.found new improved improves in
     let children = children_below (ceiling_of new) report.children in
     let others = nodes_of rest in
     let last : IsPermutation (nodes_of (held ∷ rest)) (others ++ held.node ∷ []) = IsPermutation-append_comm (held.node ∷ []) others in
     let turned : IsCovered p best (others ++ held.node ∷ []) =
-    covered_still p best (nodes_of (held ∷ rest)) (others ++ held.node ∷ []) (All-permutation (IsNodeOf p) _ _ last covered.of_nodes) (λ node among _. Contains-permutation _ _ node last among) covered in
-    let expanded : IsCovered p new (others ++ report.children) = expansion_keeps p best new others held.node report fair project pairs (λ s shorter. in_time_below report.ceiling best s in_time shorter) shorter_of turned in
-    let all_children : All (IsNodeOf p) children = All-filter (λ (child : Subproblem). is_below (ceiling_of new) child.bound) (IsNodeOf p) report.children (all_right (IsNodeOf p) others report.children expanded.of_nodes) in
+    covered_still p best (nodes_of (held ∷ rest)) (others ++ held.node ∷ [])
+    (All-permutation (IsNodeOf p) _ _ last covered.of_nodes)
+    (λ node among _. Contains-permutation _ _ node last among) covered in
+    let expanded : IsCovered p new (others ++ report.children) =
+    expansion_keeps p best new others held.node report fair project pairs
+    (λ s shorter. in_time_below report.ceiling best s in_time shorter) shorter_of turned in
+    let all_children : All (IsNodeOf p) children =
+    All-filter (λ (child : Subproblem). is_below (ceiling_of new) child.bound) (IsNodeOf p) report.children
+    (all_right (IsNodeOf p) others report.children expanded.of_nodes) in
     let opened : IsCovered p new (children ++ others) =
-    covered_still p new (others ++ report.children) (children ++ others) (All-append (IsNodeOf p) children others all_children (all_left (IsNodeOf p) others report.children expanded.of_nodes))
+    covered_still p new (others ++ report.children) (children ++ others)
+    (All-append (IsNodeOf p) children others all_children
+    (all_left (IsNodeOf p) others report.children expanded.of_nodes))
     (λ node among under.
     ⊎_elim
     (λ (other : Contains others node). Contains-append_right children others node other)
     (λ (child : Contains report.children node). Contains-append_left children others node (child_stays (ceiling_of new) report.children node child under))
     (Contains-append_cases others report.children node among))
     expanded in
-    let names : nodes_of (named_from first children ++ rest) ≡ children ++ others = map-append (λ (n : Named). n.node) (named_from first children) rest ∙ ap (λ (ks : List Subproblem). ks ++ others) (nodes_of_named first children) in
+    let names : nodes_of (named_from first children ++ rest) ≡ children ++ others =
+    map-append (λ (n : Named). n.node) (named_from first children) rest
+    ∙ ap (λ (ks : List Subproblem). ks ++ others) (nodes_of_named first children) in
     subst (λ (ns : List Subproblem). IsCovered p new ns) (sym names) opened

@@ -1,5 +1,6 @@
 -- Names of nodes: how often each stands, as nodes move and children are opened.
-use Rattle.std.proofs.Common.{◌≡◌, ◌<◌, ◌≤◌, ◌+◌, ◌==◌, ℕ, Bool, true, false, cond, List, [], ◌∷◌, ◌++◌, length, refl, ap, ◌∙◌, arith, ⊎_elim, map, ℤ, Option, Some, None}
+use Rattle.std.proofs.Common.{◌≡◌, ◌<◌, ◌≤◌, ◌+◌, ◌==◌, ℕ, Bool, true, false, cond, List, [], ◌∷◌, ◌++◌, length, refl}
+use Rattle.std.proofs.Common.{ap, ◌∙◌, arith, ⊎_elim, map, ℤ, Option, Some, None}
 use Rattle.std.specs.List.{All, count_by, Any, filter}
 use Rattle.std.specs.List.Sorted.{IsPermutation}
 use Rattle.std.proofs.lemmas.Bool.{cases_lt}
@@ -61,7 +62,8 @@ count_above name opened (node ∷ nodes) l below =
     omega (arith, more, has_none (node.name == name) other, count_above name opened nodes l (All-tail (λ (n : Named). n.name < opened) node nodes below))
 
 -- children that are opened get names of their own
-pub named_once_opened : (held : Named) (rest : List Named) (children : List Subproblem) (first : ℕ) → AreNamedOnce (held ∷ rest) → AreNamedBelow first (held ∷ rest) → AreNamedOnce (named_from first children ++ rest)
+pub named_once_opened : (held : Named) (rest : List Named) (children : List Subproblem) (first : ℕ)
+    → AreNamedOnce (held ∷ rest) → AreNamedBelow first (held ∷ rest) → AreNamedOnce (named_from first children ++ rest)
 named_once_opened held rest children first once below name =
     let parts = sum_by-append (has name) (named_from first children) rest in
     let whole = sum_by-cons (has name) held rest in
@@ -85,7 +87,9 @@ pub nodes_of_named : (first : ℕ) (nodes : List Subproblem) → nodes_of (named
 nodes_of_named first [] = refl
 nodes_of_named first (node ∷ nodes) = ap (λ (ns : List Subproblem). node ∷ ns) (nodes_of_named (first + 1) nodes)
 
-pub named_from_more : (first : ℕ) (nodes : List Subproblem) (node : Subproblem) → named_from first (nodes ++ node ∷ []) ≡ named_from first nodes ++ record { name = first + length nodes; node = node } ∷ []
+pub named_from_more : (first : ℕ) (nodes : List Subproblem) (node : Subproblem)
+    → named_from first (nodes ++ node ∷ []) ≡ named_from first nodes ++ record
+    { name = first + length nodes; node = node } ∷ []
 named_from_more first [] node = ap (λ (n : ℕ). let ns : List Named = record { name = n; node = node } ∷ [] in ns) (omega arith)
 named_from_more first (x ∷ xs) node =
     ap (λ (ns : List Named). record { name = first; node = x } ∷ ns)

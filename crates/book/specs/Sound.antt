@@ -13,8 +13,8 @@ use Rattle.search_log.specs.RightTrail.{IsRightTrail, IsWholeTree, has_ended}
 use Rattle.std.specs.Option.{option_to_list}
 use Rattle.network.specs.Problem.{Problem}
 use Rattle.network.specs.Schedule.{IsFeasible, makespan, IsShortest, IsLowerBound, HasNoSchedule}
-use Rattle.book.specs.declared.answers.Verdict.{Verdict}
-use Rattle.book.specs.declared.answers.Verdict.TheVariants as verdict
+use Rattle.network.specs.declared.verdict.Verdict.{Verdict}
+use Rattle.network.specs.declared.verdict.Verdict.TheVariants as verdict
 
 abbrev pub nodes_of : List Named → List Subproblem
 nodes_of named = map (λ (n : Named). n.node) named
@@ -81,20 +81,8 @@ abbrev pub IsBoundFor : Problem → Option ℤ → Type 0
 IsBoundFor p None = HasNoSchedule p
 IsBoundFor p (Some bound) = IsLowerBound p bound
 
--- some feasible schedule has this makespan, and the bound is not above it
-pub record IsReached (p : Problem) (bound length : ℤ) : Type 0 where
-  pub schedule : (s : List ℤ) × IsFeasible p s × (makespan s ≡ length)
-  pub above : bound ≤ℤ length
-
--- what a verdict says of the project
-abbrev pub IsTrueOf : Problem → Verdict → Type 0
-IsTrueOf p (verdict.Optimal length) = IsShortest p length
-IsTrueOf p verdict.NoSchedule = HasNoSchedule p
-IsTrueOf p (verdict.Open best bound) = IsLowerBound p bound × IfSome best (IsReached p bound)
-
--- with no node open or in hand the best is optimal, or there is no schedule; else the best and the bound are told
+-- with no node open or in hand the best is optimal, or there is no schedule; else the bound is the least of those known
 abbrev pub IsVerdictOf : BookState → Verdict → Type 0
 IsVerdictOf s (verdict.Optimal length) = (live s ≡ []) × (best_makespan s ≡ Some length)
 IsVerdictOf s verdict.NoSchedule = (live s ≡ []) × (best_makespan s ≡ None)
-IsVerdictOf s (verdict.Open best bound) =
-    (0 < length (live s)) × (best ≡ best_makespan s) × IsLeast (known_bounds s) (Some bound)
+IsVerdictOf s (verdict.Bound bound) = (0 < length (live s)) × IsLeast (known_bounds s) (Some bound)

@@ -1,5 +1,7 @@
 -- What becomes of a book: as it is opened, as a worker takes a node, gives it back or checks it in, and as a schedule is offered.
-use Rattle.std.specs.Prelude.{◌≡◌, ◌≢◌, ℤ, Bool, true, false, Option, Some, None, IfSome, Result, Ok, Err, ◌+◌, ◌<◌, ◌≤◌, ◌++◌, ℕ, List, [], ◌∷◌, length, option_map, slice_set, ◌⊎◌, replicate, ◌<ℤ◌, slice_get}
+use Rattle.std.specs.Prelude.{◌≡◌, ◌≢◌, ℤ, Bool, true, false, Option, Some, None, IfSome, Result, Ok, Err, ◌+◌, ◌<◌}
+use Rattle.std.specs.Prelude.{◌≤◌, ◌++◌, ℕ, List, [], ◌∷◌, length, option_map, slice_set, ◌⊎◌, replicate, ◌<ℤ◌}
+use Rattle.std.specs.Prelude.{slice_get}
 use Rattle.network.specs.Schedule.{ScheduleOf, makespan}
 use Rattle.branching.specs.Right.{IsUnder, Reaches, IsInTime}
 use Rattle.branching.specs.Fair.{ceiling_of, Expansion, AreListsOf, IsRootOf}

@@ -85,15 +85,3 @@ pub enum CheckFault {
 /// The schedule is of another project.
 #[derive(Clone, Copy, Debug, PartialEq, Eq)]
 pub struct OtherProject;
-
-/// What a book says of its project.
-#[derive(Clone, Copy, Debug, PartialEq, Eq)]
-pub enum Verdict {
-    /// The least makespan of a feasible schedule, in periods.
-    Optimal { makespan: i64 },
-    /// There is no feasible schedule.
-    NoSchedule,
-    /// The search is not over. `best` is the makespan of the best schedule so far, and no feasible schedule takes fewer
-    /// than `bound` periods.
-    Open { best: Option<i64>, bound: i64 },
-}

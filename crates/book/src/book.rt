@@ -2,16 +2,15 @@
 
 ghost use Rattle.std.specs.Prelude.{◌≡◌, ◌↔◌, ◌<◌, IsTrue, true, false, length, IfOk, IfErr, IfSome, option_map};
 ghost use Rattle.std.specs.Arc.{arc_value};
+ghost use Rattle.network.specs.Schedule.{IsTrueVerdict};
 ghost use Rattle.branching.specs.Fair.{AreListsOf};
 ghost use Rattle.branching.specs.Right.{IsLeast};
-ghost use Rattle.book.specs.Sound.{IsSound, IsWithinLimits, IsRecorded, EndsWhole, known_bounds, IsBoundFor, IsTrueOf, IsVerdictOf};
+ghost use Rattle.book.specs.Sound.{IsSound, IsWithinLimits, IsRecorded, EndsWhole, known_bounds, IsBoundFor, IsVerdictOf};
 ghost use Rattle.book.specs.Steps.{AreAllowed, AreRoots, Opens, OpensRecorded, Offers, IsFull, Cuts, HandsOut, Takes, MayCheckIn, Judges, Accepts, ChecksIn, ChecksInForReuse, GivesBack};
 ghost use Rattle.book.specs.State.{counts_of, AddUp};
 ghost use Rattle.search_log.specs.SearchLog.{trail_for};
 
-use crate::answers::{
-    BookFault, CheckFault, CheckedIn, MAX_WORKERS, OtherProject, Take, Ticket, Verdict,
-};
+use crate::answers::{BookFault, CheckFault, CheckedIn, MAX_WORKERS, OtherProject, Take, Ticket};
 use crate::counts::Counts;
 use crate::hands::Hands;
 use crate::nodes_left::NodesLeft;
@@ -19,7 +18,7 @@ use crate::open_nodes::OpenNodes;
 use crate::recording::{clear_open, open_children, shorter_found};
 use branching::{Branches, Report, is_below, is_in_time, lesser, makespan_of, open_root};
 use longest_path::PathFault;
-use network::{Project, Schedule};
+use network::{Project, Schedule, Verdict};
 use plain_search::MAX_EXPANDED;
 use search_log::SearchLog;
 use std::alloc::{AllocError, Global};
@@ -416,7 +415,7 @@ impl Book {
     /// What the book says of its project.
     pub fn verdict(&self) -> Verdict
         ensures verdict { IsVerdictOf self.now result }
-        ensures holds { IsTrueOf self.now.project result }
+        ensures holds { IsTrueVerdict self.now.project result }
     {
         let Some(bound) = self.lower_bound() else {
             return Verdict::NoSchedule;
@@ -424,7 +423,6 @@ impl Book {
         if self.waiting.len() == 0 && self.hands.count() == 0 {
             return Verdict::Optimal { makespan: bound };
         }
-        let best = makespan_of(&self.best);
-        Verdict::Open { best, bound }
+        Verdict::Bound { bound }
     }
 }

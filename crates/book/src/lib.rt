@@ -15,9 +15,7 @@ mod nodes_left;
 mod open_nodes;
 mod recording;
 
-pub use answers::{
-    BookFault, CheckFault, CheckedIn, MAX_WORKERS, OtherProject, Take, Ticket, Verdict,
-};
+pub use answers::{BookFault, CheckFault, CheckedIn, MAX_WORKERS, OtherProject, Take, Ticket};
 pub use book::{Book, are_allowed};
 pub use counts::Counts;
 pub use events::{Request, Response, run_events};

@@ -242,7 +242,7 @@ fn asked(alloc: Global, book: &Book, kind: &str) -> anyhow::Result<String> {
     match (kind, book.best()) {
         ("best", None) => Ok(String::from_str(alloc, "-")?),
         ("best", Some(best)) => Ok(starts_text(alloc, best.starts())?),
-        ("verdict", _) => Ok(verdict_text(alloc, book.verdict())?),
+        ("verdict", _) => Ok(verdict_text(alloc, book)?),
         _ => Ok(trail_text(alloc, book.trail())?),
     }
 }

@@ -1,8 +1,8 @@
 //! What a book answers, as words.
 
-use book::{Book, CheckFault, CheckedIn, Response, Take, Ticket, Verdict};
+use book::{Book, CheckFault, CheckedIn, Response, Take, Ticket};
 use branching::OpenNode;
-use network::Pair;
+use network::{Pair, Verdict};
 use std::alloc::{AllocError, Global};
 
 /// A number, or a dash.
@@ -118,12 +118,12 @@ pub fn told(alloc: Global, book: &Book) -> Result<String, AllocError> {
 }
 
 /// What a book says of its project: of an open search the best makespan and the bound.
-pub fn verdict_text(alloc: Global, verdict: Verdict) -> Result<String, AllocError> {
-    match verdict {
+pub fn verdict_text(alloc: Global, book: &Book) -> Result<String, AllocError> {
+    match book.verdict() {
         Verdict::Optimal { makespan } => format!(in alloc; "optimal {makespan}"),
         Verdict::NoSchedule => String::from_str(alloc, "no schedule"),
-        Verdict::Open { best, bound } => {
-            let best = or_dash(alloc, best)?;
+        Verdict::Bound { bound } => {
+            let best = or_dash(alloc, book.best().map(|best| best.makespan()))?;
             format!(in alloc; "open {best} {bound}")
         }
     }

@@ -1,5 +1,6 @@
 -- What a line of slots has found, once some loads by falling head have filled it.
-use Rattle.std.proofs.Common.{◌≡◌, refl, sym, ap, ◌∙◌, subst, ℕ, suc, ◌+◌, ◌-◌, ◌*◌, ◌<◌, ◌≤◌, max, ◌⊎◌, inl, inr, ⊎_elim, List, [], ◌∷◌, length, get_or, take, arith}
+use Rattle.std.proofs.Common.{◌≡◌, refl, sym, ap, ◌∙◌, subst, ℕ, suc, ◌+◌, ◌-◌, ◌*◌, ◌<◌, ◌≤◌, max, ◌⊎◌, inl, inr}
+use Rattle.std.proofs.Common.{⊎_elim, List, [], ◌∷◌, length, get_or, take, arith}
 use Rattle.std.specs.List.{All, Contains, sum_by}
 use Rattle.std.specs.List.Sorted.{IsNonDecreasing}
 use Rattle.std.proofs.lemmas.Bool.{cases_lt}
@@ -9,7 +10,9 @@ use Rattle.std.proofs.Math.Nat.{mul-le-mul_left}
 use Rattle.bounds.specs.declared.limits.TheConstants.{MAX_CAPACITY, MAX_END, MAX_WORK}
 use Rattle.bounds.specs.Loads.{IsSmall, AreLoads, work_after, envelope, IsEnvelopeUpTo, IsAbove, line_of, width_before, IsFilled, Load}
 use Rattle.bounds.proofs.Widths.{width_more}
-use Rattle.bounds.proofs.LateWork.{line_marks, line_far, sum_small, product_small, late_work, late_work-late, late_work-early, late_work-le, work_after-low, work_after-early, work_after-le, IsTop, sum_more, passed, work_reaches}
+use Rattle.bounds.proofs.LateWork.{line_marks, line_far, sum_small, product_small, late_work, late_work-late}
+use Rattle.bounds.proofs.LateWork.{late_work-early, late_work-le, work_after-low, work_after-early, work_after-le}
+use Rattle.bounds.proofs.LateWork.{IsTop, sum_more, passed, work_reaches}
 
 -- ---- tops that are raised by a fill, over plain numbers
 
@@ -117,7 +120,8 @@ pub record AreOnLine (c : ℕ) (tails : List ℕ) (loads : List Load) (line : Li
   pub rising : IsNonDecreasing tails
   pub is : line ≡ line_of c tails
 
-pub filled_start : (c : ℕ) (tails : List ℕ) (loads : List Load) (line widths : List ℕ) → IsNonDecreasing line → length line ≡ length tails + 1 → length widths + 1 ≡ length line →
+pub filled_start : (c : ℕ) (tails : List ℕ) (loads : List Load) (line widths : List ℕ) → IsNonDecreasing line
+    → length line ≡ length tails + 1 → length widths + 1 ≡ length line →
     ((q : ℕ) → q < length line → get_or line 0 0 + width_before widths q ≡ get_or line q 0) → Filled c tails loads line 0 widths 0 0
 filled_start c tails loads line widths rising long count marks = record {
   count = omega arith;
@@ -160,7 +164,9 @@ pub record IsNext (c : ℕ) (tails : List ℕ) (loads : List Load) (line : List 
   pub small : IsSmall tails x
 
 -- the envelope of a load's head and where the fill ends
-new_reached : (c : ℕ) (tails : List ℕ) (loads : List Load) (line : List ℕ) (i m : ℕ) (x : Load) → AreOnLine c tails loads line → i < length loads → x ≡ get_or loads i x → IsHeld line loads (i + 1) m → IsEnvelopeUpTo c tails loads (c * x.head + m)
+new_reached : (c : ℕ) (tails : List ℕ) (loads : List Load) (line : List ℕ) (i m : ℕ) (x : Load)
+    → AreOnLine c tails loads line → i < length loads → x ≡ get_or loads i x → IsHeld line loads (i + 1) m
+    → IsEnvelopeUpTo c tails loads (c * x.head + m)
 new_reached c tails loads line i m x on inside at h =
     let index : h.index < i + 1 = h.passed in
     let lt : h.index < length loads = omega arith in
@@ -177,16 +183,26 @@ new_reached c tails loads line i m x on inside at h =
       place = h.place;
       there = (h.index, lt, sym h.at);
       late = late;
-      within = omega (arith, h.within, line_marks c tails line on.is h.place (omega arith), mul-le-mul_left c heads, work_reaches tails loads h.place h.index h.load on.are lt h.at);
+      within = omega (
+        arith,
+        h.within,
+        line_marks c tails line on.is h.place (omega arith),
+        mul-le-mul_left c heads,
+        work_reaches tails loads h.place h.index h.load on.are lt h.at,
+      );
     }
 
-new_above : (c : ℕ) (tails : List ℕ) (loads : List Load) (line : List ℕ) (i : ℕ) (old : List ℕ) (filled n m : ℕ) (x : Load) → IsNext c tails loads line i old filled n x →
-    ((q : ℕ) (y : Load) → Contains (take (i + 1) loads) y → q < y.rank → end_from line loads (i + 1) q ≤ m) → IsAbove c tails (take (i + 1) loads) (max n (c * x.head + m))
+new_above : (c : ℕ) (tails : List ℕ) (loads : List Load) (line : List ℕ) (i : ℕ) (old : List ℕ) (filled n m : ℕ)
+    (x : Load) → IsNext c tails loads line i old filled n x →
+    ((q : ℕ) (y : Load) → Contains (take (i + 1) loads) y → q < y.rank → end_from line loads (i + 1) q ≤ m)
+    → IsAbove c tails (take (i + 1) loads) (max n (c * x.head + m))
 new_above c tails loads line i old filled n m x s over = λ a j y there high late.
     let more = sum_more (work_after a j) loads i x s.inside s.at in
     let rank : x.rank ≤ length tails = s.small.rank_limit in
-    let with_new : a ≤ x.head → j < x.rank → (z : Load) → Contains (take (i + 1) loads) z → j < z.rank → envelope c tails (take (i + 1) loads) a j ≤ c * x.head + m = λ up short z is_there counts.
-    let between : sum_by (work_after a j) (take (i + 1) loads) ≤ sum_by (late_work j) (take (i + 1) loads) = sum_by-le-sum_by (work_after a j) (late_work j) (take (i + 1) loads) (work_after-le a j) in
+    let with_new : a ≤ x.head → j < x.rank → (z : Load) → Contains (take (i + 1) loads) z → j < z.rank
+    → envelope c tails (take (i + 1) loads) a j ≤ c * x.head + m = λ up short z is_there counts.
+    let between : sum_by (work_after a j) (take (i + 1) loads) ≤ sum_by (late_work j) (take (i + 1) loads) =
+    sum_by-le-sum_by (work_after a j) (late_work j) (take (i + 1) loads) (work_after-le a j) in
     omega (arith, between, mul-le-mul_left c up, over j z is_there counts, line_marks c tails line s.on.is j (omega arith)) in
     ⊎_elim
     (λ (before : Contains (take i loads) y).
@@ -206,9 +222,11 @@ new_above c tails loads line i old filled n m x s over = λ a j y there high lat
     (passed loads i x y s.inside s.at there)
 
 -- the greatest envelope with one load more, where the fill now ends at m
-next_filled : (c : ℕ) (tails : List ℕ) (loads : List Load) (line : List ℕ) (i : ℕ) (old new : List ℕ) (filled n m : ℕ) (x : Load) → IsNext c tails loads line i old filled n x → length new ≡ length tails →
+next_filled : (c : ℕ) (tails : List ℕ) (loads : List Load) (line : List ℕ) (i : ℕ) (old new : List ℕ) (filled n m : ℕ)
+    (x : Load) → IsNext c tails loads line i old filled n x → length new ≡ length tails →
     ((q : ℕ) → q ≤ length tails → IsTop (end_from line loads (i + 1)) q (top_at line loads (i + 1) new q)) → IsHeld line loads (i + 1) m →
-    ((q : ℕ) (y : Load) → Contains (take (i + 1) loads) y → q < y.rank → end_from line loads (i + 1) q ≤ m) → Filled c tails loads line (i + 1) new m (max n (c * x.head + m))
+    ((q : ℕ) (y : Load) → Contains (take (i + 1) loads) y → q < y.rank → end_from line loads (i + 1) q ≤ m)
+    → Filled c tails loads line (i + 1) new m (max n (c * x.head + m))
 next_filled c tails loads line i old new filled n m x s count tops held over =
     let value : ℕ = c * x.head + m in
     record {
@@ -217,14 +235,16 @@ next_filled c tails loads line i old new filled n m x s count tops held over =
       held = inr held;
       over = over;
       reached = ⊎_elim
-          (λ (more : n < value). let larger : max n value ≡ value = omega arith in rw larger (inr (new_reached c tails loads line i m x s.on s.inside s.at held)))
+          (λ (more : n < value). let larger : max n value ≡ value = omega arith
+          in rw larger (inr (new_reached c tails loads line i m x s.on s.inside s.at held)))
           (λ (less : value ≤ n). let larger : max n value ≡ n = omega arith in rw larger s.was.reached)
           (cases_lt n value);
       above = new_above c tails loads line i old filled n m x s over;
     }
 
 -- where the fill ends is that of the new load or of one before
-held_more : (line : List ℕ) (loads : List Load) (i filled own : ℕ) → (filled ≡ 0) ⊎ IsHeld line loads i filled → ((m : ℕ) → m ≤ own → IsHeld line loads (i + 1) m) → IsHeld line loads (i + 1) (max filled own)
+held_more : (line : List ℕ) (loads : List Load) (i filled own : ℕ) → (filled ≡ 0) ⊎ IsHeld line loads i filled
+    → ((m : ℕ) → m ≤ own → IsHeld line loads (i + 1) m) → IsHeld line loads (i + 1) (max filled own)
 held_more line loads i filled own held by_load =
     ⊎_elim
     (λ (more : filled < own). let larger : max filled own ≡ own = omega arith in rw larger (by_load own (omega arith)))
@@ -232,7 +252,15 @@ held_more line loads i filled own held by_load =
     let larger : max filled own ≡ filled = omega arith in
     rw larger (⊎_elim
     (λ (none : filled ≡ 0). by_load filled (omega arith))
-    (λ (h : IsHeld line loads i filled). record { load = h.load; index = h.index; passed = omega (arith, h.passed); at = h.at; place = h.place; late = h.late; within = h.within })
+    (λ (h : IsHeld line loads i filled). record {
+      load = h.load;
+      index = h.index;
+      passed = omega (arith, h.passed);
+      at = h.at;
+      place = h.place;
+      late = h.late;
+      within = h.within;
+    })
     held))
     (cases_lt filled own)
 
@@ -242,20 +270,24 @@ pub record IsStep (c : ℕ) (tails : List ℕ) (loads : List Load) (line : List 
   pub next : IsNext c tails loads line i old filled n x
   pub fills : IsFilled (x.rank - 1) x.work e old new
 
-gains : (c : ℕ) (tails : List ℕ) (loads : List Load) (line : List ℕ) (i : ℕ) (old new : List ℕ) (filled n : ℕ) (x : Load) (e : ℕ) → IsStep c tails loads line i old new filled n x e →
+gains : (c : ℕ) (tails : List ℕ) (loads : List Load) (line : List ℕ) (i : ℕ) (old new : List ℕ) (filled n : ℕ)
+    (x : Load) (e : ℕ) → IsStep c tails loads line i old new filled n x e →
     (k : ℕ) → k < x.rank → end_from line loads (i + 1) k ≡ end_from line loads i k + x.work
 gains c tails loads line i old new filled n x e s k late = omega (arith, sum_more (late_work k) loads i x s.next.inside s.next.at, late_work-late k x late)
 
-keeps : (c : ℕ) (tails : List ℕ) (loads : List Load) (line : List ℕ) (i : ℕ) (old new : List ℕ) (filled n : ℕ) (x : Load) (e : ℕ) → IsStep c tails loads line i old new filled n x e →
+keeps : (c : ℕ) (tails : List ℕ) (loads : List Load) (line : List ℕ) (i : ℕ) (old new : List ℕ) (filled n : ℕ)
+    (x : Load) (e : ℕ) → IsStep c tails loads line i old new filled n x e →
     (k : ℕ) → x.rank ≤ k → end_from line loads (i + 1) k ≡ end_from line loads i k
 keeps c tails loads line i old new filled n x e s k early = omega (arith, sum_more (late_work k) loads i x s.next.inside s.next.at, late_work-early k x early)
 
-new_tops : (c : ℕ) (tails : List ℕ) (loads : List Load) (line : List ℕ) (i : ℕ) (old new : List ℕ) (filled n : ℕ) (x : Load) (e : ℕ) → IsStep c tails loads line i old new filled n x e →
+new_tops : (c : ℕ) (tails : List ℕ) (loads : List Load) (line : List ℕ) (i : ℕ) (old new : List ℕ) (filled n : ℕ)
+    (x : Load) (e : ℕ) → IsStep c tails loads line i old new filled n x e →
     (q : ℕ) → q ≤ length tails → IsTop (end_from line loads (i + 1)) q (top_at line loads (i + 1) new q)
 new_tops c tails loads line i old new filled n x e s =
     let some : 0 < x.rank = s.next.small.some_tail in
     let count : length old ≡ length tails = s.next.was.count in
-    let more : sum_by (λ (y : Load). y.work) (take (i + 1) loads) ≡ sum_by (λ (y : Load). y.work) (take i loads) + x.work = sum_more (λ y. y.work) loads i x s.next.inside s.next.at in
+    let more : sum_by (λ (y : Load). y.work) (take (i + 1) loads) ≡ sum_by (λ (y : Load). y.work) (take i loads) +
+    x.work = sum_more (λ y. y.work) loads i x s.next.inside s.next.at in
     let own : ℕ = x.rank - 1 in
     raised own e x.work (length tails) (end_from line loads i) (end_from line loads (i + 1)) (top_at line loads i old) (top_at line loads (i + 1) new)
     (record {
@@ -272,7 +304,8 @@ new_tops c tails loads line i old new filled n x e s =
     s.next.was.tops
 
 -- where the fill of the load ends: the top at its own slot, less what lies after the last slot that it reached
-pub own_is : (c : ℕ) (tails : List ℕ) (loads : List Load) (line : List ℕ) (i : ℕ) (old new : List ℕ) (filled n : ℕ) (x : Load) (e : ℕ) → IsStep c tails loads line i old new filled n x e →
+pub own_is : (c : ℕ) (tails : List ℕ) (loads : List Load) (line : List ℕ) (i : ℕ) (old new : List ℕ) (filled n : ℕ)
+    (x : Load) (e : ℕ) → IsStep c tails loads line i old new filled n x e →
     end_from line loads (i + 1) (e + 1) ≡ top_at line loads (i + 1) new (x.rank - 1) + get_or new e 0
 own_is c tails loads line i old new filled n x e s =
     let count : length old ≡ length tails = s.next.was.count in
@@ -293,11 +326,18 @@ own_is c tails loads line i old new filled n x e s =
     ap (end_from line loads (i + 1)) (sym place) ∙ omega (arith, next.reached)
 
 -- the mark after the last slot is beyond the width that it has left
-pub own_small : (c : ℕ) (tails : List ℕ) (loads : List Load) (line : List ℕ) (i : ℕ) (old new : List ℕ) (filled n : ℕ) (x : Load) (e : ℕ) → IsStep c tails loads line i old new filled n x e → get_or new e 0 ≤ get_or line (e + 1) 0
+pub own_small : (c : ℕ) (tails : List ℕ) (loads : List Load) (line : List ℕ) (i : ℕ) (old new : List ℕ) (filled n : ℕ)
+    (x : Load) (e : ℕ) → IsStep c tails loads line i old new filled n x e → get_or new e 0 ≤ get_or line (e + 1) 0
 own_small c tails loads line i old new filled n x e s =
-    omega (arith, own_is c tails loads line i old new filled n x e s, sum_by-le-sum_by (late_work (e + 1)) (λ (y : Load). y.work) (take (i + 1) loads) (late_work-le (e + 1)))
+    omega (
+      arith,
+      own_is c tails loads line i old new filled n x e s,
+      sum_by-le-sum_by (late_work (e + 1)) (λ (y : Load). y.work) (take (i + 1) loads) (late_work-le (e + 1)),
+    )
 
-new_held : (c : ℕ) (tails : List ℕ) (loads : List Load) (line : List ℕ) (i : ℕ) (old new : List ℕ) (filled n : ℕ) (x : Load) (e own : ℕ) → IsStep c tails loads line i old new filled n x e → own + get_or new e 0 ≡ get_or line (e + 1) 0 →
+new_held : (c : ℕ) (tails : List ℕ) (loads : List Load) (line : List ℕ) (i : ℕ) (old new : List ℕ) (filled n : ℕ)
+    (x : Load) (e own : ℕ) → IsStep c tails loads line i old new filled n x e
+    → own + get_or new e 0 ≡ get_or line (e + 1) 0 →
     IsHeld line loads (i + 1) (max filled own)
 new_held c tails loads line i old new filled n x e own s is =
     let some : 0 < x.rank = s.next.small.some_tail in
@@ -313,7 +353,9 @@ new_held c tails loads line i old new filled n x e own s is =
       within = omega (arith, top.reached, own_is c tails loads line i old new filled n x e s);
     })
 
-new_over : (c : ℕ) (tails : List ℕ) (loads : List Load) (line : List ℕ) (i : ℕ) (old new : List ℕ) (filled n : ℕ) (x : Load) (e own : ℕ) → IsStep c tails loads line i old new filled n x e → own + get_or new e 0 ≡ get_or line (e + 1) 0 →
+new_over : (c : ℕ) (tails : List ℕ) (loads : List Load) (line : List ℕ) (i : ℕ) (old new : List ℕ) (filled n : ℕ)
+    (x : Load) (e own : ℕ) → IsStep c tails loads line i old new filled n x e
+    → own + get_or new e 0 ≡ get_or line (e + 1) 0 →
     (q : ℕ) (y : Load) → Contains (take (i + 1) loads) y → q < y.rank → end_from line loads (i + 1) q ≤ max filled own
 new_over c tails loads line i old new filled n x e own s is q y there late =
     let some : 0 < x.rank = s.next.small.some_tail in
@@ -328,7 +370,13 @@ new_over c tails loads line i old new filled n x e own s is q y there late =
     (λ (z : IsSomeLate (e + 1) (take (i + 1) loads)).
     ⊎_elim
     (λ (before : Contains (take i loads) z.load).
-    omega (arith, top.above q (omega arith), own_end, s.next.was.over (e + 1) z.load before z.late, keeps c tails loads line i old new filled n x e s (e + 1) (omega arith)))
+    omega (
+      arith,
+      top.above q (omega arith),
+      own_end,
+      s.next.was.over (e + 1) z.load before z.late,
+      keeps c tails loads line i old new filled n x e s (e + 1) (omega arith),
+    ))
     (λ (same : x ≡ z.load). let ranks : x.rank ≡ z.load.rank = ap (λ (l : Load). l.rank) same in absurd (omega (arith, z.late)))
     (passed loads i x z.load s.next.inside s.next.at z.there))
     (late_or (e + 1) (take (i + 1) loads)))
@@ -339,19 +387,33 @@ new_over c tails loads line i old new filled n x e own s is q y there late =
     (passed loads i x y s.next.inside s.next.at there))
     (cases_lt q x.rank)
 
-pub filled_more : (c : ℕ) (tails : List ℕ) (loads : List Load) (line : List ℕ) (i : ℕ) (old new : List ℕ) (filled n : ℕ) (x : Load) (e own : ℕ) → IsStep c tails loads line i old new filled n x e → own + get_or new e 0 ≡ get_or line (e + 1) 0 →
+pub filled_more : (c : ℕ) (tails : List ℕ) (loads : List Load) (line : List ℕ) (i : ℕ) (old new : List ℕ) (filled n : ℕ)
+    (x : Load) (e own : ℕ) → IsStep c tails loads line i old new filled n x e
+    → own + get_or new e 0 ≡ get_or line (e + 1) 0 →
     Filled c tails loads line (i + 1) new (max filled own) (max n (c * x.head + max filled own))
 filled_more c tails loads line i old new filled n x e own s is =
-    next_filled c tails loads line i old new filled n (max filled own) x s.next (s.fills.count ∙ s.next.was.count) (new_tops c tails loads line i old new filled n x e s) (new_held c tails loads line i old new filled n x e own s is) (new_over c tails loads line i old new filled n x e own s is)
+    next_filled c tails loads line i old new filled n (max filled own) x s.next (s.fills.count ∙ s.next.was.count)
+    (new_tops c tails loads line i old new filled n x e s)
+    (new_held c tails loads line i old new filled n x e own s is)
+    (new_over c tails loads line i old new filled n x e own s is)
 
 -- ---- limits
 
 -- the ends from a slot on are within the limits
-end_small : (c : ℕ) (tails : List ℕ) (loads : List Load) (line : List ℕ) (i q : ℕ) → AreOnLine c tails loads line → q < length tails → end_from line loads i q ≤ 2005000000000000
+end_small : (c : ℕ) (tails : List ℕ) (loads : List Load) (line : List ℕ) (i q : ℕ) → AreOnLine c tails loads line
+    → q < length tails → end_from line loads i q ≤ 2005000000000000
 end_small c tails loads line i q on short =
-    omega (arith, line_marks c tails line on.is q short, product_small c (get_or tails q 0) on.few (on.low q 0 short), sum_by-take-le (late_work q) loads i, sum_small (late_work q) tails loads on.are (late_work-le q))
+    omega (
+      arith,
+      line_marks c tails line on.is q short,
+      product_small c (get_or tails q 0) on.few (on.low q 0 short),
+      sum_by-take-le (late_work q) loads i,
+      sum_small (late_work q) tails loads on.are (late_work-le q),
+    )
 
-pub filled_small : (c : ℕ) (tails : List ℕ) (loads : List Load) (line : List ℕ) (i : ℕ) (widths : List ℕ) (filled n : ℕ) → AreOnLine c tails loads line → i ≤ length loads → Filled c tails loads line i widths filled n → filled ≤ 2005000000000000
+pub filled_small : (c : ℕ) (tails : List ℕ) (loads : List Load) (line : List ℕ) (i : ℕ) (widths : List ℕ) (filled n : ℕ)
+    → AreOnLine c tails loads line → i ≤ length loads → Filled c tails loads line i widths filled n
+    → filled ≤ 2005000000000000
 filled_small c tails loads line i widths filled n on inside s =
     ⊎_elim
     (λ (none : filled ≡ 0). omega arith)
@@ -363,7 +425,8 @@ filled_small c tails loads line i widths filled n on inside s =
     s.held
 
 -- no work reaches the end
-pub width_enough : (c : ℕ) (tails : List ℕ) (loads : List Load) (line : List ℕ) (i : ℕ) (widths : List ℕ) (filled n : ℕ) (x : Load) → AreOnLine c tails loads line → IsSmall tails x →
+pub width_enough : (c : ℕ) (tails : List ℕ) (loads : List Load) (line : List ℕ) (i : ℕ) (widths : List ℕ) (filled n : ℕ)
+    (x : Load) → AreOnLine c tails loads line → IsSmall tails x →
     Filled c tails loads line i widths filled n → width_before widths (x.rank - 1) + x.work < width_before widths (length widths)
 width_enough c tails loads line i widths filled n x on small s =
     let some : 0 < x.rank = small.some_tail in
@@ -372,4 +435,11 @@ width_enough c tails loads line i widths filled n x on small s =
     let own = s.tops (x.rank - 1) (omega arith) in
     let last = s.tops (length tails) (omega arith) in
     let at : width_before widths (length widths) ≡ width_before widths (length tails) = ap (width_before widths) s.count in
-    omega (arith, own.reached, own.early, end_small c tails loads line i own.place on (omega (arith, own.early)), last.above (length tails) (omega arith), line_far c tails line on.is)
+    omega (
+      arith,
+      own.reached,
+      own.early,
+      end_small c tails loads line i own.place on (omega (arith, own.early)),
+      last.above (length tails) (omega arith),
+      line_far c tails line on.is,
+    )

@@ -1,9 +1,13 @@
 -- The work of loads with at least some tail, of those that were passed by falling head.
-use Rattle.std.proofs.Common.{◌≡◌, sym, ap, ◌∙◌, subst, ℕ, ◌+◌, ◌<◌, ◌≤◌, max, ◌⊎◌, List, [], ◌∷◌, ◌++◌, length, get_or, take, arith, ℤ, pos, map, ◌*◌, ⊎_elim, refl, ◌≢◌, set, length-append, nat_lt, if◌then◌else◌, unsigned_abs}
+use Rattle.std.proofs.Common.{◌≡◌, sym, ap, ◌∙◌, subst, ℕ, ◌+◌, ◌<◌, ◌≤◌, max, ◌⊎◌, List, [], ◌∷◌, ◌++◌, length, get_or}
+use Rattle.std.proofs.Common.{take, arith, ℤ, pos, map, ◌*◌, ⊎_elim, refl, ◌≢◌, set, length-append, nat_lt}
+use Rattle.std.proofs.Common.{if◌then◌else◌, unsigned_abs}
 use Rattle.std.specs.List.{All, Contains, sum_by}
 use Rattle.std.specs.Ordering.{ord_max, nat_cmp}
 use Rattle.std.proofs.lemmas.Bool.Decides.{nat_tests}
-use Rattle.std.proofs.lemmas.List.{take_more, length-take-le, get_or-take, length-map, get_or_default, get_or_append_left, get_or_push, get_or-map, get_or-set_same, get_or-set_other, length-set, ext_get_or}
+use Rattle.std.proofs.lemmas.List.{take_more, length-take-le, get_or-take, length-map, get_or_default}
+use Rattle.std.proofs.lemmas.List.{get_or_append_left, get_or_push, get_or-map, get_or-set_same, get_or-set_other}
+use Rattle.std.proofs.lemmas.List.{length-set, ext_get_or}
 use Rattle.std.proofs.lemmas.List.Elements.{All-from_get_or, Contains-push_cases, All-map, All-contains, Contains-get_or}
 use Rattle.std.proofs.lemmas.List.Sums.{sum_by_more, sum_by-take-le, sum_by-le}
 use Rattle.bounds.specs.Loads.{AreLoads, work_after, tail_of, load, IsSmall, AreTailsOf, AreLoadsOf, IsEnvelopeUpTo, line_of, Load}
@@ -56,16 +60,19 @@ pub record IsTop (f : ℕ → ℕ) (j n : ℕ) : Type 0 where
   pub above : (i : ℕ) → i ≤ j → f i ≤ n
 
 -- one load more adds what it has
-pub sum_more : (f : Load → ℕ) (loads : List Load) (i : ℕ) (x : Load) → i < length loads → x ≡ get_or loads i x → sum_by f (take (i + 1) loads) ≡ sum_by f (take i loads) + f x
+pub sum_more : (f : Load → ℕ) (loads : List Load) (i : ℕ) (x : Load) → i < length loads → x ≡ get_or loads i x
+    → sum_by f (take (i + 1) loads) ≡ sum_by f (take i loads) + f x
 sum_more f loads i x lt at = sum_by_more f loads i x lt ∙ ap (λ y. sum_by f (take i loads) + f y) (sym at)
 
-pub passed : (loads : List Load) (i : ℕ) (x y : Load) → i < length loads → x ≡ get_or loads i x → Contains (take (i + 1) loads) y → Contains (take i loads) y ⊎ (x ≡ y)
+pub passed : (loads : List Load) (i : ℕ) (x y : Load) → i < length loads → x ≡ get_or loads i x
+    → Contains (take (i + 1) loads) y → Contains (take i loads) y ⊎ (x ≡ y)
 passed loads i x y lt at there =
     let more : take (i + 1) loads ≡ take i loads ++ x ∷ [] = take_more loads i x lt ∙ ap (λ z. take i loads ++ z ∷ []) (sym at) in
     Contains-push_cases (take i loads) x y (subst (λ ys. Contains ys y) more there)
 
 -- the work of the loads up to one, by falling head, all lies after its head
-pub work_reaches : (tails : List ℕ) (loads : List Load) (j i : ℕ) (x : Load) → AreLoads tails loads → i < length loads → x ≡ get_or loads i x → sum_by (late_work j) (take (i + 1) loads) ≤ sum_by (work_after x.head j) loads
+pub work_reaches : (tails : List ℕ) (loads : List Load) (j i : ℕ) (x : Load) → AreLoads tails loads → i < length loads
+    → x ≡ get_or loads i x → sum_by (late_work j) (take (i + 1) loads) ≤ sum_by (work_after x.head j) loads
 work_reaches tails loads j i x are lt at =
     let each : All (λ y. late_work j y ≤ work_after x.head j y) (take (i + 1) loads) =
     All-from_get_or (λ y. late_work j y ≤ work_after x.head j y) (take (i + 1) loads) x (λ k l.
@@ -89,17 +96,23 @@ abs_limit z between =
 pub end_limit : (n : ℕ) (ends : List ℤ) (i : ℕ) → AreEnds n ends → i < n → unsigned_abs (start ends i) ≤ MAX_END
 end_limit n ends i are lt = abs_limit (start ends i) (are.within i (pos 0) (rw are.count lt))
 
-pub loads_limited : (n : ℕ) (heads tails : List ℤ) (rising : List ℕ) (tasks : List Task) (loads : List Load) → AreEnds n heads → AreTasks n tasks → AreTailsOf tails tasks rising → AreLoadsOf heads tails rising tasks loads → AreLoads rising loads
+pub loads_limited : (n : ℕ) (heads tails : List ℤ) (rising : List ℕ) (tasks : List Task) (loads : List Load)
+    → AreEnds n heads → AreTasks n tasks → AreTailsOf tails tasks rising → AreLoadsOf heads tails rising tasks loads
+    → AreLoads rising loads
 loads_limited n heads tails rising tasks loads of_heads are of_tails of_loads =
     let few : length tasks ≤ MAX_ACTIVITIES = are.few in
-    let long : length loads ≡ length tasks = length_permutation (map (load heads tails rising) tasks) loads of_loads.whole ∙ length-map tasks (load heads tails rising) in
+    let long : length loads ≡ length tasks =
+    length_permutation (map (load heads tails rising) tasks) loads of_loads.whole
+    ∙ length-map tasks (load heads tails rising) in
     record {
       few = omega arith;
       small = All-permutation (IsSmall rising) (map (load heads tails rising) tasks) loads of_loads.whole
           (All-map (IsSmall rising) (load heads tails rising) tasks (λ j d l.
           let t : Task = get_or tasks j d in
           let at : IsTask n (get_or tasks j d) = are.each j d l in
-          let occurs : Contains rising (tail_of tails (get_or tasks j d)) = (of_tails.occur (tail_of tails (get_or tasks j d))).1 (Contains-map (tail_of tails) tasks (get_or tasks j d) (Contains-get_or tasks j d l)) in
+          let occurs : Contains rising (tail_of tails (get_or tasks j d)) =
+          (of_tails.occur (tail_of tails (get_or tasks j d))).1
+          (Contains-map (tail_of tails) tasks (get_or tasks j d) (Contains-get_or tasks j d l)) in
           record {
             head_limit = end_limit n heads (get_or tasks j d).activity of_heads at.there;
             some_tail = rank_some rising (tail_of tails (get_or tasks j d)) of_tails.up occurs;
@@ -109,10 +122,12 @@ loads_limited n heads tails rising tasks loads of_heads are of_tails of_loads =
       falling = of_loads.falling;
     }
 
-pub tails_limited : (n : ℕ) (tails : List ℤ) (rising : List ℕ) (tasks : List Task) → AreEnds n tails → AreTasks n tasks → AreTailsOf tails tasks rising → All (λ b. b ≤ MAX_END) rising
+pub tails_limited : (n : ℕ) (tails : List ℤ) (rising : List ℕ) (tasks : List Task) → AreEnds n tails → AreTasks n tasks
+    → AreTailsOf tails tasks rising → All (λ b. b ≤ MAX_END) rising
 tails_limited n tails rising tasks of_ends are of_tails =
     All-from_get_or (λ b. b ≤ MAX_END) rising 0 (λ k lt.
-    let z = made_from (record { activity = 0; work = 0 }) (tail_of tails) tasks (get_or rising k 0) ((of_tails.occur (get_or rising k 0)).0 (Contains-get_or rising k 0 lt)) in
+    let z = made_from (record { activity = 0; work = 0 }) (tail_of tails) tasks (get_or rising k 0)
+    ((of_tails.occur (get_or rising k 0)).0 (Contains-get_or rising k 0 lt)) in
     let at : IsTask n z.source = All-contains (IsTask n) tasks z.source are.each z.there in
     subst (λ (c : ℕ). c ≤ MAX_END) (sym z.is) (end_limit n tails z.source.activity of_ends at.there))
 
@@ -132,7 +147,8 @@ sum_small f tails loads are part =
 pub product_small : (c a : ℕ) → c ≤ MAX_CAPACITY → a ≤ MAX_END → c * a ≤ 1003000000000000
 product_small c a small low = omega (arith, mul-le-mul small low)
 
-pub reached_small : (c : ℕ) (tails : List ℕ) (loads : List Load) (n : ℕ) → AreLoads tails loads → c ≤ MAX_CAPACITY → All (λ b. b ≤ MAX_END) tails → (n ≡ 0) ⊎ IsEnvelopeUpTo c tails loads n → n ≤ MAX_ENVELOPE
+pub reached_small : (c : ℕ) (tails : List ℕ) (loads : List Load) (n : ℕ) → AreLoads tails loads → c ≤ MAX_CAPACITY
+    → All (λ b. b ≤ MAX_END) tails → (n ≡ 0) ⊎ IsEnvelopeUpTo c tails loads n → n ≤ MAX_ENVELOPE
 reached_small c tails loads n are few low =
     ⊎_elim
     (λ (none : n ≡ 0). omega arith)
@@ -143,7 +159,13 @@ reached_small c tails loads n are few low =
     let late : r.place < r.load.rank = r.late in
     let tail : get_or tails r.place 0 ≤ MAX_END = low r.place 0 (omega arith) in
     let within : n ≤ c * (r.load.head + get_or tails r.place 0) + sum_by (work_after r.load.head r.place) loads = r.within in
-    omega (arith, within, product_small c r.load.head few head, product_small c (get_or tails r.place 0) few tail, sum_small (work_after r.load.head r.place) tails loads are (work_part r.load.head r.place)))
+    omega (
+      arith,
+      within,
+      product_small c r.load.head few head,
+      product_small c (get_or tails r.place 0) few tail,
+      sum_small (work_after r.load.head r.place) tails loads are (work_part r.load.head r.place),
+    ))
   where
     work_part : (a j : ℕ) (x : Load) → work_after a j x ≤ x.work
     work_part a j x = omega (arith, work_after-le a j x, late_work-le j x)
@@ -156,13 +178,16 @@ line_long c tails line is = ap length is ∙ length-append (map (λ b. c * b) ta
 pub line_marks : (c : ℕ) (tails line : List ℕ) → line ≡ line_of c tails → (q : ℕ) → q < length tails → get_or line q 0 ≡ c * get_or tails q 0
 line_marks c tails line is q lt =
     let long : length (map (λ b. c * b) tails) ≡ length tails = length-map tails (λ b. c * b) in
-    ap (λ (xs : List ℕ). get_or xs q 0) is ∙ get_or_append_left (map (λ b. c * b) tails) (FAR_MARK ∷ []) 0 q (omega arith) ∙ get_or-map (λ b. c * b) tails q 0 0 lt
+    ap (λ (xs : List ℕ). get_or xs q 0) is
+    ∙ get_or_append_left (map (λ b. c * b) tails) (FAR_MARK ∷ []) 0 q (omega arith)
+    ∙ get_or-map (λ b. c * b) tails q 0 0 lt
 
 pub line_far : (c : ℕ) (tails line : List ℕ) → line ≡ line_of c tails → get_or line (length tails) 0 ≡ FAR_MARK
 line_far c tails line is =
     ap (λ (xs : List ℕ). get_or xs (length tails) 0) is ∙ get_or_push (map (λ b. c * b) tails) FAR_MARK 0 (length tails) (length-map tails (λ b. c * b))
 
-pub line_rises : (c : ℕ) (tails line : List ℕ) → line ≡ line_of c tails → c ≤ MAX_CAPACITY → All (λ b. b ≤ MAX_END) tails → IsNonDecreasing tails → IsNonDecreasing line
+pub line_rises : (c : ℕ) (tails line : List ℕ) → line ≡ line_of c tails → c ≤ MAX_CAPACITY
+    → All (λ b. b ≤ MAX_END) tails → IsNonDecreasing tails → IsNonDecreasing line
 line_rises c tails line is few low rising = λ i j d early late.
     let long = line_long c tails line is in
     let at_i : get_or line i d ≡ get_or line i 0 = get_or_default line i d 0 (omega arith) in
@@ -184,7 +209,9 @@ line_rises c tails line is few low rising = λ i j d early late.
     (cases_lt i (length tails))
 
 -- a line that is written place by place, and then its last mark
-pub line_written : (c : ℕ) (tails mid : List ℕ) → length mid ≡ length tails + 1 → ((q : ℕ) → q < length tails → get_or mid q 0 ≡ c * get_or tails q 0) → set mid (length tails) FAR_MARK ≡ line_of c tails
+pub line_written : (c : ℕ) (tails mid : List ℕ) → length mid ≡ length tails + 1
+    → ((q : ℕ) → q < length tails → get_or mid q 0 ≡ c * get_or tails q 0)
+    → set mid (length tails) FAR_MARK ≡ line_of c tails
 line_written c tails mid long at =
     let line : List ℕ = set mid (length tails) FAR_MARK in
     let same : length line ≡ length mid = length-set mid (length tails) FAR_MARK in

@@ -1,5 +1,6 @@
 -- Ranks along an order by rising keys, one place after another.
-use Rattle.std.proofs.Common.{◌≡◌, refl, sym, ap, ◌∙◌, ℕ, ◌+◌, ◌-◌, ◌<◌, ◌≤◌, inl, inr, ⊎_elim, ℤ, pos, List, length, get_or, set, arith, unsigned_abs, nat_le, nat_lt, get_or-set_same, get_or-set_other}
+use Rattle.std.proofs.Common.{◌≡◌, refl, sym, ap, ◌∙◌, ℕ, ◌+◌, ◌-◌, ◌<◌, ◌≤◌, inl, inr, ⊎_elim, ℤ, pos, List, length}
+use Rattle.std.proofs.Common.{get_or, set, arith, unsigned_abs, nat_le, nat_lt, get_or-set_same, get_or-set_other}
 use Rattle.std.proofs.lemmas.Bool.{cases_eq, cases_lt, le-leb, leb-true, leb-false, lt-leb, ltb-true, ltb-false, lt-ltb, le-ltb}
 use Rattle.profile.specs.Orders.{key_at}
 use Rattle.bounds.specs.Loads.{IsRank, IsKeyOf, IsRanked, rank_of}
@@ -24,8 +25,12 @@ later : (keys : List ℤ) (order : List ℕ) (n b c : ℕ) → c ≡ b → IsKey
 later keys order n b c same k = let early = k.early in record { at = k.at; early = omega arith; is = same ∙ k.is }
 
 -- the rank of one place more is written
-ranked_with : (keys : List ℤ) (order : List ℕ) (n count more place : ℕ) (rising new ranks : List ℕ) → IsRanked keys order n count rising ranks → place ≡ get_or order n 0 → place < length ranks → count ≤ more → more ≤ n + 1 →
-    ((q : ℕ) → q < count → get_or new q 0 ≡ get_or rising q 0) → ((i j : ℕ) → i < j → j < more → get_or new i 0 < get_or new j 0) → ((q : ℕ) → q < more → IsKeyOf keys order (n + 1) (get_or new q 0)) →
+ranked_with : (keys : List ℤ) (order : List ℕ) (n count more place : ℕ) (rising new ranks : List ℕ)
+    → IsRanked keys order n count rising ranks → place ≡ get_or order n 0 → place < length ranks → count ≤ more
+    → more ≤ n + 1 →
+    ((q : ℕ) → q < count → get_or new q 0 ≡ get_or rising q 0)
+    → ((i j : ℕ) → i < j → j < more → get_or new i 0 < get_or new j 0)
+    → ((q : ℕ) → q < more → IsKeyOf keys order (n + 1) (get_or new q 0)) →
     IsRank new more (unsigned_abs (get_or keys place (pos 0))) more → IsRanked keys order (n + 1) more new (set ranks place more)
 ranked_with keys order n count more place rising new ranks s at short less few kept up keys_are last = record {
   few = few;
@@ -48,15 +53,21 @@ ranked_with keys order n count more place rising new ranks s at short less few k
 }
 
 -- a key that is greater than all before it
-pub ranked_new : (keys : List ℤ) (order : List ℕ) (n count place : ℕ) (rising ranks : List ℕ) → IsRanked keys order n count rising ranks → place ≡ get_or order n 0 → place < length ranks → count < length rising →
+pub ranked_new : (keys : List ℤ) (order : List ℕ) (n count place : ℕ) (rising ranks : List ℕ)
+    → IsRanked keys order n count rising ranks → place ≡ get_or order n 0 → place < length ranks → count < length rising
+    →
     (0 < count → get_or rising (count - 1) 0 < unsigned_abs (get_or keys place (pos 0))) →
     IsRanked keys order (n + 1) (count + 1) (set rising count (unsigned_abs (get_or keys place (pos 0)))) (set ranks place (count + 1))
 ranked_new keys order n count place rising ranks s at short spare greater =
     let few : count ≤ n = s.few in
     let key : ℕ = unsigned_abs (get_or keys place (pos 0)) in
-    let here : get_or (set rising count (unsigned_abs (get_or keys place (pos 0)))) count 0 ≡ unsigned_abs (get_or keys place (pos 0)) = get_or-set_same rising count (unsigned_abs (get_or keys place (pos 0))) 0 spare in
-    let kept : (q : ℕ) → q < count → get_or (set rising count (unsigned_abs (get_or keys place (pos 0)))) q 0 ≡ get_or rising q 0 = λ q lt. get_or-set_other rising count q (unsigned_abs (get_or keys place (pos 0))) 0 (omega arith) in
-    ranked_with keys order n count (count + 1) place rising (set rising count (unsigned_abs (get_or keys place (pos 0)))) ranks s at short (omega arith) (omega arith) kept
+    let here : get_or (set rising count (unsigned_abs (get_or keys place (pos 0)))) count 0 ≡ unsigned_abs
+    (get_or keys place (pos 0)) = get_or-set_same rising count (unsigned_abs (get_or keys place (pos 0))) 0 spare in
+    let kept : (q : ℕ) → q < count → get_or (set rising count (unsigned_abs (get_or keys place (pos 0)))) q 0 ≡ get_or
+    rising q 0 = λ q lt. get_or-set_other rising count q (unsigned_abs (get_or keys place (pos 0))) 0 (omega arith)
+    in
+    ranked_with keys order n count (count + 1) place rising
+    (set rising count (unsigned_abs (get_or keys place (pos 0)))) ranks s at short (omega arith) (omega arith) kept
     (λ i j before late.
     ⊎_elim
     (λ (early : j < count). omega (arith, kept i (omega arith), kept j early, s.up i j before early))
@@ -75,10 +86,16 @@ ranked_new keys order n count place rising ranks s at short spare greater =
     let same : q ≡ count = omega arith in
     rw same (record { at = n; early = omega arith; is = here ∙ ap (λ (m : ℕ). unsigned_abs (get_or keys m (pos 0))) at }))
     (cases_lt q count))
-    (record { some = omega arith; among = omega arith; is = let less : count + 1 - 1 ≡ count = omega arith in ap (λ (m : ℕ). get_or (set rising count (unsigned_abs (get_or keys place (pos 0)))) m 0) less ∙ here })
+    (record {
+      some = omega arith;
+      among = omega arith;
+      is = let less : count + 1 - 1 ≡ count = omega arith
+          in ap (λ (m : ℕ). get_or (set rising count (unsigned_abs (get_or keys place (pos 0)))) m 0) less ∙ here;
+    })
 
 -- a key that is the last of them
-pub ranked_same : (keys : List ℤ) (order : List ℕ) (n count place : ℕ) (rising ranks : List ℕ) → IsRanked keys order n count rising ranks → place ≡ get_or order n 0 → place < length ranks → 0 < count →
+pub ranked_same : (keys : List ℤ) (order : List ℕ) (n count place : ℕ) (rising ranks : List ℕ)
+    → IsRanked keys order n count rising ranks → place ≡ get_or order n 0 → place < length ranks → 0 < count →
     get_or rising (count - 1) 0 ≡ unsigned_abs (get_or keys place (pos 0)) → IsRanked keys order (n + 1) count rising (set ranks place count)
 ranked_same keys order n count place rising ranks s at short some same =
     let few : count ≤ n = s.few in
@@ -87,7 +104,9 @@ ranked_same keys order n count place rising ranks s at short some same =
     (record { some = some; among = omega arith; is = same })
 
 -- the last of the keys so far is at most the next
-pub last_least : (keys : List ℤ) (order : List ℕ) (n count : ℕ) (rising ranks : List ℕ) → IsRanked keys order n count rising ranks → 0 < count → ((i : ℕ) → i < n → unsigned_abs (key_at keys order i) ≤ unsigned_abs (key_at keys order n)) →
+pub last_least : (keys : List ℤ) (order : List ℕ) (n count : ℕ) (rising ranks : List ℕ)
+    → IsRanked keys order n count rising ranks → 0 < count
+    → ((i : ℕ) → i < n → unsigned_abs (key_at keys order i) ≤ unsigned_abs (key_at keys order n)) →
     get_or rising (count - 1) 0 ≤ unsigned_abs (key_at keys order n)
 last_least keys order n count rising ranks s some rises =
     let k = s.keys_are (count - 1) (omega arith) in
@@ -103,7 +122,8 @@ rank_tells rising b j up short =
     (λ (below : j < rank_of rising b). lt-ltb j (rank_of rising b) below ∙ sym (prefix_len_passes (λ t. nat_le t b) rising j 0 below))
     (λ (beyond : rank_of rising b ≤ j).
     let inside : rank_of rising b < length rising = omega arith in
-    let stops : b < get_or rising (rank_of rising b) 0 = leb-false (get_or rising (rank_of rising b) 0) b (prefix_len_stops (λ t. nat_le t b) rising 0 inside) in
+    let stops : b < get_or rising (rank_of rising b) 0 =
+    leb-false (get_or rising (rank_of rising b) 0) b (prefix_len_stops (λ t. nat_le t b) rising 0 inside) in
     let rises : get_or rising (rank_of rising b) 0 ≤ get_or rising j 0 = up (rank_of rising b) j 0 beyond short in
     le-ltb j (rank_of rising b) beyond ∙ sym (lt-leb (get_or rising j 0) b (omega arith)))
     (cases_lt j (rank_of rising b))

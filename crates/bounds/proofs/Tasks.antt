@@ -1,5 +1,7 @@
 -- The tasks of a resource are the activities that have work for it.
-use Rattle.std.proofs.Common.{◌≡◌, refl, ap, ◌∙◌, ℕ, zero, suc, ◌<◌, Bool, true, false, cond, ◌&&◌, ℤ, pos, negsuc, ◌≤ℤ◌, List, [], ◌∷◌, get_or, arith, sym, ◌*◌, ◌≤◌, ⊎_elim, length, map, ◌+◌, ◌-◌, add-suc, add-zero, int_le, unsigned_abs}
+use Rattle.std.proofs.Common.{◌≡◌, refl, ap, ◌∙◌, ℕ, zero, suc, ◌<◌, Bool, true, false, cond, ◌&&◌, ℤ, pos, negsuc}
+use Rattle.std.proofs.Common.{◌≤ℤ◌, List, [], ◌∷◌, get_or, arith, sym, ◌*◌, ◌≤◌, ⊎_elim, length, map, ◌+◌, ◌-◌, add-suc}
+use Rattle.std.proofs.Common.{add-zero, int_le, unsigned_abs}
 use Rattle.std.specs.List.{All, Contains, filter, range_with_len, sum_by}
 use Rattle.std.proofs.lemmas.Int.{ints}
 use Rattle.std.proofs.lemmas.List.FromFn.{get_or-range_with_len, length-range_with_len, get_or-map-range_with_len, length-map-range_with_len}
@@ -55,7 +57,8 @@ pub record LiesBetween (p : Problem) (heads tails : List ℤ) (a b : ℤ) (i : �
 pub All-between : (p : Problem) (heads tails : List ℤ) (a b : ℤ) → All (LiesBetween p heads tails a b) (between p heads tails a b)
 All-between p heads tails a b k d l =
     let test : ℕ → Bool = λ j. int_le a (start heads j) && int_le b (tail tails j) in
-    let passed = passes a b (start heads (get_or (between p heads tails a b) k d)) (tail tails (get_or (between p heads tails a b) k d)) (filter_passes test (activities p) k d l) in
+    let passed = passes a b (start heads (get_or (between p heads tails a b) k d))
+    (tail tails (get_or (between p heads tails a b) k d)) (filter_passes test (activities p) k d l) in
     record { there = All-filter test (λ j. j < activity_count p) (activities p) (range_below (activity_count p)) k d l; late = passed.0; early = passed.1 }
 
 pub lies_between : (p : Problem) (heads tails : List ℤ) (a b : ℤ) (i : ℕ) → Contains (between p heads tails a b) i → LiesBetween p heads tails a b i
@@ -63,7 +66,8 @@ lies_between p heads tails a b i there = All-contains (LiesBetween p heads tails
 
 pub is_between : (p : Problem) (heads tails : List ℤ) (a b : ℤ) (i : ℕ) → LiesBetween p heads tails a b i → Contains (between p heads tails a b) i
 is_between p heads tails a b i lies =
-    Contains-filter (λ j. int_le a (start heads j) && int_le b (tail tails j)) (activities p) i (pass a b (start heads i) (tail tails i) lies.late lies.early) (range_there (activity_count p) i lies.there)
+    Contains-filter (λ j. int_le a (start heads j) && int_le b (tail tails j)) (activities p) i
+    (pass a b (start heads i) (tail tails i) lies.late lies.early) (range_there (activity_count p) i lies.there)
 
 -- what a list contains, a map of it contains
 pub Contains-map : {X Y : Type 0} (f : X → Y) (xs : List X) (x : X) → Contains xs x → Contains (map f xs) (f x)
@@ -95,7 +99,9 @@ pub record IsBusy (p : Problem) (k : ℕ) (t : Task) : Type 0 where
 pub all_busy : (p : Problem) (k : ℕ) → All (IsBusy p k) (tasks_of p k)
 all_busy p k = λ j d l.
     let whole : List Task = map (task p k) (activities p) in
-    let own : All (IsTaskOf p k) (map (task p k) (activities p)) = All-map (IsTaskOf p k) (task p k) (activities p) (λ i e s. record { there = range_below (activity_count p) i e s; is = refl }) in
+    let own : All (IsTaskOf p k) (map (task p k) (activities p)) =
+    All-map (IsTaskOf p k) (task p k) (activities p)
+    (λ i e s. record { there = range_below (activity_count p) i e s; is = refl }) in
     let at : IsTaskOf p k (get_or (tasks_of p k) j d) = All-filter has_work (IsTaskOf p k) whole own j d l in
     record { there = at.there; is = at.is; busy = ltb-true 0 (get_or (tasks_of p k) j d).work (filter_passes has_work whole j d l) }
 
@@ -207,7 +213,8 @@ pub sum_by-filter : {X : Type 0} (r : X → ℕ) (p : X → Bool) (xs : List X) 
 sum_by-filter r p [] = refl
 sum_by-filter {X} r p (x ∷ xs) = omega (arith, step (p x) (filter p xs) (sum_by-filter r p xs), sum_by-cons (λ y. cond (p y) (r y) 0) x xs)
   where
-    step : (b : Bool) (ys : List X) → sum_by r ys ≡ sum_by (λ y. cond (p y) (r y) 0) xs → sum_by r (cond b (x ∷ ys) ys) ≡ cond b (r x) 0 + sum_by (λ y. cond (p y) (r y) 0) xs
+    step : (b : Bool) (ys : List X) → sum_by r ys ≡ sum_by (λ y. cond (p y) (r y) 0) xs
+        → sum_by r (cond b (x ∷ ys) ys) ≡ cond b (r x) 0 + sum_by (λ y. cond (p y) (r y) 0) xs
     step true ys rest = omega (arith, rest, sum_by-cons r x ys)
     step false ys rest = omega (arith, rest)
 
@@ -222,4 +229,10 @@ sum_by-filter-le r p (x ∷ xs) = omega (arith, sum_by-filter-le r p xs, sum_by-
 -- a sum of terms that are at most others
 pub sum_by-le-each : {X : Type 0} (f g : X → ℕ) (xs : List X) → All (λ x. f x ≤ g x) xs → sum_by f xs ≤ sum_by g xs
 sum_by-le-each f g [] h = omega arith
-sum_by-le-each f g (x ∷ xs) h = omega (arith, All-head (λ y. f y ≤ g y) x xs h, sum_by-le-each f g xs (All-tail (λ y. f y ≤ g y) x xs h), sum_by-cons f x xs, sum_by-cons g x xs)
+sum_by-le-each f g (x ∷ xs) h = omega (
+  arith,
+  All-head (λ y. f y ≤ g y) x xs h,
+  sum_by-le-each f g xs (All-tail (λ y. f y ≤ g y) x xs h),
+  sum_by-cons f x xs,
+  sum_by-cons g x xs,
+)

@@ -23,7 +23,8 @@ width_set_after xs i v q late short =
     omega (arith, sum_by-set (λ r. r) (take q xs) i v 0 within)
 
 -- widths that are written place by place
-pub widths_more : (line widths : List ℕ) (i : ℕ) → i < length widths → get_or line i 0 ≤ get_or line (i + 1) 0 → ((q : ℕ) → q ≤ i → get_or line 0 0 + width_before widths q ≡ get_or line q 0) →
+pub widths_more : (line widths : List ℕ) (i : ℕ) → i < length widths → get_or line i 0 ≤ get_or line (i + 1) 0
+    → ((q : ℕ) → q ≤ i → get_or line 0 0 + width_before widths q ≡ get_or line q 0) →
     (q : ℕ) → q ≤ i + 1 → get_or line 0 0 + width_before (set widths i (get_or line (i + 1) 0 - get_or line i 0)) q ≡ get_or line q 0
 widths_more line widths i lt up at q early =
     let width : ℕ = get_or line (i + 1) 0 - get_or line i 0 in
@@ -94,7 +95,8 @@ filling_more start work place left old mid s short fits =
     }
 
 -- the walk hasn't come to the end
-pub filling_inside : (start work place left : ℕ) (old new : List ℕ) → IsFilling start work place left old new → width_before old start + work < width_before old (length old) → place ≤ length old → place < length old
+pub filling_inside : (start work place left : ℕ) (old new : List ℕ) → IsFilling start work place left old new
+    → width_before old start + work < width_before old (length old) → place ≤ length old → place < length old
 filling_inside start work place left old new s enough limit =
     ⊎_elim
     (λ (below : place < length old). below)
@@ -125,5 +127,11 @@ filling_end start work place left old mid s short width =
       after = after_to;
       beyond = λ q l h.
           let here : get_or new place 0 ≡ get_or mid place 0 - left = get_or-set_same mid place (get_or mid place 0 - left) 0 (omega arith) in
-          omega (arith, width_up new (place + 1) q (omega arith) (omega arith), width_more new place (omega arith), up_to place (omega arith), s.full place late (omega arith));
+          omega (
+            arith,
+            width_up new (place + 1) q (omega arith) (omega arith),
+            width_more new place (omega arith),
+            up_to place (omega arith),
+            s.full place late (omega arith),
+          );
     }

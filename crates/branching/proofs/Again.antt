@@ -2,7 +2,8 @@
 use Rattle.std.proofs.Common.{◌≡◌, refl, subst, ℕ, ◌<◌, arith, ℤ, pos, ◌≤ℤ◌, Option, None, Some, ⊎_elim, List, [], ◌∷◌, ◌++◌, map, length, get_or}
 use Rattle.std.proofs.lemmas.Int.{ints}
 use Rattle.std.specs.List.{Contains}
-use Rattle.std.proofs.lemmas.List.Elements.{All-nil, All-cons, All-push, All-contains, All-get_or, Contains-append_left, Contains-append_right, Contains-append_cases, Contains-push_cases}
+use Rattle.std.proofs.lemmas.List.Elements.{All-nil, All-cons, All-push, All-contains, All-get_or, Contains-append_left}
+use Rattle.std.proofs.lemmas.List.Elements.{Contains-append_right, Contains-append_cases, Contains-push_cases}
 use Rattle.network.specs.declared.parts.Lag.{Lag}
 use Rattle.network.specs.declared.parts.Pair.{Pair}
 use Rattle.network.specs.Problem.{Problem, activity_count, pair_arc, rules, arcs_of, NameActivities}
@@ -18,7 +19,8 @@ walk_among : (arcs others : List Lag) (a b : ℕ) (es : List Lag) → IsAmong ar
 walk_among arcs others a b [] among w = w
 walk_among arcs others a b (e ∷ es) among w = (among e w.0, w.1, walk_among arcs others e.to b es among w.2)
 
-greatest_same : (arcs others : List Lag) (a b : ℕ) (o : Option ℤ) → IsAmong arcs others → IsAmong others arcs → IsGreatestWeight arcs a b o → IsGreatestWeight others a b o
+greatest_same : (arcs others : List Lag) (a b : ℕ) (o : Option ℤ) → IsAmong arcs others → IsAmong others arcs
+    → IsGreatestWeight arcs a b o → IsGreatestWeight others a b o
 greatest_same arcs others a b None to from none = λ es w. none es (walk_among others arcs a b es from w)
 greatest_same arcs others a b (Some x) to from g = (
   (g.0.0, walk_among arcs others a b g.0.0 to g.0.1, g.0.2),
@@ -52,7 +54,8 @@ pub named_one : (p : Problem) (pairs : List Pair) (i : ℕ) (d : Pair) → i < l
 named_one p pairs i d low named = All-cons (AreThere p) (get_or pairs i d) [] (All-get_or (AreThere p) pairs i d low named) (All-nil (AreThere p))
 
 -- a pair that is added again changes nothing
-pub again : (p : Problem) (pairs : List Pair) (pair : Pair) (rows : Rows) → Contains pairs pair → IsProjectMatrix p pairs rows → IsProjectMatrix p (pairs ++ pair ∷ []) rows
+pub again : (p : Problem) (pairs : List Pair) (pair : Pair) (rows : Rows) → Contains pairs pair
+    → IsProjectMatrix p pairs rows → IsProjectMatrix p (pairs ++ pair ∷ []) rows
 again p pairs pair rows at m =
     let more : AreAmong pairs (pairs ++ pair ∷ []) = λ q c. Contains-append_left pairs (pair ∷ []) q c in
     let fewer : AreAmong (pairs ++ pair ∷ []) pairs = λ q c.
@@ -63,15 +66,19 @@ again p pairs pair rows at m =
     record {
       limits = m.limits;
       named = All-push (AreThere p) pairs pair m.named (All-contains (AreThere p) pairs pair m.named at);
-      matrix = matrix_same (activity_count p) (arcs_of p pairs) (arcs_of p (pairs ++ pair ∷ [])) rows (arcs_among p pairs (pairs ++ pair ∷ []) more) (arcs_among p (pairs ++ pair ∷ []) pairs fewer) m.matrix;
+      matrix = matrix_same (activity_count p) (arcs_of p pairs) (arcs_of p (pairs ++ pair ∷ [])) rows
+          (arcs_among p pairs (pairs ++ pair ∷ []) more) (arcs_among p (pairs ++ pair ∷ []) pairs fewer) m.matrix;
     }
 
 -- and closes nothing
-pub closes_none_again : (p : Problem) (pairs : List Pair) (pair : Pair) (rows : Rows) → Contains pairs pair → IsProjectMatrix p pairs rows → ClosesNone (pair_arc p pair) rows
+pub closes_none_again : (p : Problem) (pairs : List Pair) (pair : Pair) (rows : Rows) → Contains pairs pair
+    → IsProjectMatrix p pairs rows → ClosesNone (pair_arc p pair) rows
 closes_none_again p pairs pair rows at m x e =
     let there : AreThere p pair = All-contains (AreThere p) pairs pair m.named at in
     let back : IsGreatestWeight (arcs_of p pairs) pair.after pair.before (Some x) = rw e at (m.matrix.greatest pair.after pair.before there.1 there.0) in
-    let arc : Contains (arcs_of p pairs) (pair_arc p pair) = Contains-append_right (rules p) (map (pair_arc p) pairs) (pair_arc p pair) (contains_map (pair_arc p) pairs pair at) in
+    let arc : Contains (arcs_of p pairs) (pair_arc p pair) =
+    Contains-append_right (rules p) (map (pair_arc p) pairs) (pair_arc p pair)
+    (contains_map (pair_arc p) pairs pair at) in
     let low : weight (pair_arc p pair ∷ back.0.0) ≤ℤ pos 0 = m.matrix.no_cycle pair.before (pair_arc p pair ∷ back.0.0) (arc, refl, back.0.1) in
     let weighs : weight back.0.0 ≡ x = back.0.2 in
     omega (arith, ints)

@@ -1,9 +1,11 @@
 -- A feasible schedule keeps some ordered pair of any forbidden set whose members take time: at the
 -- greatest of their starts they don't all run, so one of them has ended.
-use Rattle.std.proofs.Common.{◌≡◌, ◌≢◌, ℕ, List, [], ◌∷◌, get_or, subst, ◌⊎◌, inl, inr, arith, sym, ◌∙◌, ◌++◌, ⊎_elim, Option, Some, None, ℤ, pos, ◌+ℤ◌, ◌≤ℤ◌, ◌<ℤ◌, IfSome}
+use Rattle.std.proofs.Common.{◌≡◌, ◌≢◌, ℕ, List, [], ◌∷◌, get_or, subst, ◌⊎◌, inl, inr, arith, sym, ◌∙◌, ◌++◌, ⊎_elim}
+use Rattle.std.proofs.Common.{Option, Some, None, ℤ, pos, ◌+ℤ◌, ◌≤ℤ◌, ◌<ℤ◌, IfSome}
 use Rattle.std.specs.List.{All, Any, Contains}
 use Rattle.std.proofs.lemmas.Int.{ints, by_lt_z}
-use Rattle.std.proofs.lemmas.List.Elements.{All-nil, All-cons, All-contains, All-append, All-weaker, Contains-append_left, Contains-append_right, Contains-push, Contains-get_or}
+use Rattle.std.proofs.lemmas.List.Elements.{All-nil, All-cons, All-contains, All-append, All-weaker}
+use Rattle.std.proofs.lemmas.List.Elements.{Contains-append_left, Contains-append_right, Contains-push, Contains-get_or}
 use Rattle.network.specs.declared.parts.Pair.{Pair}
 use Rattle.network.specs.Problem.{Problem, duration, pair_of, arcs_of}
 use Rattle.network.specs.Schedule.{start, Keeps, IsFeasible, ScheduleOf, makespan, HasNoSchedule}
@@ -28,7 +30,8 @@ some_ends : (p : Problem) (s : List ℤ) (u : ℤ) (xs : List ℕ) → ((i : ℕ
 some_ends p s u [] = inr (All-nil (EndsAfter p s u))
 some_ends p s u (x ∷ xs) = longer (some_ends p s u xs)
   where
-    longer : ((i : ℕ) × (Contains xs i × EndsBy p s u i)) ⊎ All (EndsAfter p s u) xs → ((i : ℕ) × (Contains (x ∷ xs) i × EndsBy p s u i)) ⊎ All (EndsAfter p s u) (x ∷ xs)
+    longer : ((i : ℕ) × (Contains xs i × EndsBy p s u i)) ⊎ All (EndsAfter p s u) xs
+        → ((i : ℕ) × (Contains (x ∷ xs) i × EndsBy p s u i)) ⊎ All (EndsAfter p s u) (x ∷ xs)
     longer (inl (i, ends)) = inl (i, (there x xs i ends.0, ends.1))
     longer (inr after) =
         by_lt_z u (start s x +ℤ duration p x)
@@ -36,7 +39,8 @@ some_ends p s u (x ∷ xs) = longer (some_ends p s u xs)
         (λ done. inl (x, (here x xs, done)))
 
 -- they can't all run at the greatest of their starts, so two of them are disjoint, and one ordered pair is kept
-pub some_pair_kept : (p : Problem) (s : List ℤ) (k : ℕ) (set : List ℕ) → IsFeasible p s → IsRightSet p k set → (pair : Pair) × (Contains (ordered_pairs set) pair × Keeps p s pair)
+pub some_pair_kept : (p : Problem) (s : List ℤ) (k : ℕ) (set : List ℕ) → IsFeasible p s → IsRightSet p k set
+    → (pair : Pair) × (Contains (ordered_pairs set) pair × Keeps p s pair)
 some_pair_kept p s k [] feasible together = absurd (let exceeds = together.forbidden in omega arith)
 some_pair_kept p s k (x ∷ xs) feasible together = by_last (starts_last s x xs)
   where
@@ -46,11 +50,15 @@ some_pair_kept p s k (x ∷ xs) feasible together = by_last (starts_last s x xs)
         takes_time : pos 0 <ℤ duration p m
         takes_time = All-contains (λ i. pos 0 <ℤ duration p i) (x ∷ xs) m together.take_time last.member
 
-        by_ends : ((i : ℕ) × (Contains (x ∷ xs) i × EndsBy p s (start s m) i)) ⊎ All (EndsAfter p s (start s m)) (x ∷ xs) → (pair : Pair) × (Contains (ordered_pairs (x ∷ xs)) pair × Keeps p s pair)
+        by_ends : ((i : ℕ) × (Contains (x ∷ xs) i × EndsBy p s (start s m) i))
+            ⊎ All (EndsAfter p s (start s m)) (x ∷ xs) → (pair : Pair)
+            × (Contains (ordered_pairs (x ∷ xs)) pair × Keeps p s pair)
         by_ends (inl (i, ends)) =
-            let other : i ≢ m = λ same. let done : EndsBy p s (start s m) m = subst (EndsBy p s (start s m)) same ends.1 in absurd (omega (arith, ints, done, takes_time)) in
+            let other : i ≢ m = λ same. let done : EndsBy p s (start s m) m = subst (EndsBy p s (start s m)) same ends.1
+            in absurd (omega (arith, ints, done, takes_time)) in
             (pair_of i m, (contains_pair (x ∷ xs) i m ends.0 last.member other, ends.1))
-        by_ends (inr after) = absurd (not_all_run p s k (x ∷ xs) (start s m) feasible together.in_range together.rising together.named together.forbidden last.last after)
+        by_ends (inr after) = absurd (not_all_run p s k (x ∷ xs) (start s m) feasible together.in_range together.rising
+            together.named together.forbidden last.last after)
 
 -- each feasible schedule keeps one of the ordered pairs
 pub some_kept : (p : Problem) (k : ℕ) (set : List ℕ) → IsRightSet p k set → (s : List ℤ) → IsFeasible p s → Any (Keeps p s) (ordered_pairs set)
@@ -73,13 +81,18 @@ under_best None bound s low shorter = tt
 under_best (Some best) bound s low shorter = omega (arith, ints, shorter)
 
 -- a node that is not below the best stands for no shorter schedule
-pub none_stands : (p : Problem) (best : Option ScheduleOf) (nodes : List Subproblem) → All (IsNodeOf p) nodes → All (λ node. ¬ IsUnder (ceiling_of best) node.bound) nodes → (s : List ℤ) → IsShorterThan best s → Any (λ node. NodeStandsFor node s) nodes → ⊥
+pub none_stands : (p : Problem) (best : Option ScheduleOf) (nodes : List Subproblem) → All (IsNodeOf p) nodes
+    → All (λ node. ¬ IsUnder (ceiling_of best) node.bound) nodes → (s : List ℤ) → IsShorterThan best s
+    → Any (λ node. NodeStandsFor node s) nodes → ⊥
 none_stands p best nodes known over s shorter (k, node, l, e, stands) =
     let is : IsNodeOf p node = All-contains (IsNodeOf p) nodes node known (k, l, e) in
-    All-contains (λ (n : Subproblem). ¬ IsUnder (ceiling_of best) n.bound) nodes node over (k, l, e) (under_best best node.bound s (is.is_node.true_bound s stands) shorter)
+    All-contains (λ (n : Subproblem). ¬ IsUnder (ceiling_of best) n.bound) nodes node over (k, l, e)
+    (under_best best node.bound s (is.is_node.true_bound s stands) shorter)
 
 -- other nodes cover as much, as long as those that are below the best are among them
-pub covered_still : (p : Problem) (best : Option ScheduleOf) (old new : List Subproblem) → All (IsNodeOf p) new → ((node : Subproblem) → Contains old node → IsUnder (ceiling_of best) node.bound → Contains new node) → IsCovered p best old → IsCovered p best new
+pub covered_still : (p : Problem) (best : Option ScheduleOf) (old new : List Subproblem) → All (IsNodeOf p) new
+    → ((node : Subproblem) → Contains old node → IsUnder (ceiling_of best) node.bound → Contains new node)
+    → IsCovered p best old → IsCovered p best new
 covered_still p best old new nodes stays covered = record {
   of_best = covered.of_best;
   of_nodes = nodes;
@@ -95,7 +108,9 @@ covered_still p best old new nodes stays covered = record {
 child_is_node : (p : Problem) (node child : Subproblem) → node.project ≡ p → IsChildOf node child → IsNodeOf p child
 child_is_node p node child e child_of = record { project = child_of.adds.project ∙ e; is_node = child_of.adds.is_node }
 
-best_after : (p : Problem) (best after : Option ScheduleOf) (found : Option ScheduleOf) (node : Subproblem) → node.project ≡ p → IfSome best (IsScheduleFor p) → IfSome found (IsFoundFor node) → IfSome after (λ s. (Some s ≡ best) ⊎ (Some s ≡ found)) → IfSome after (IsScheduleFor p)
+best_after : (p : Problem) (best after : Option ScheduleOf) (found : Option ScheduleOf) (node : Subproblem)
+    → node.project ≡ p → IfSome best (IsScheduleFor p) → IfSome found (IsFoundFor node)
+    → IfSome after (λ s. (Some s ≡ best) ⊎ (Some s ≡ found)) → IfSome after (IsScheduleFor p)
 best_after p best None found node e of_best of_found from = tt
 best_after p best (Some s) found node e of_best of_found from =
     ⊎_elim
@@ -108,15 +123,21 @@ best_after p best (Some s) found node e of_best of_found from =
 
 -- a node may be replaced by the children of a fair report on it, once what was found is counted, where each schedule that is
 -- then still looked for is below the report's ceiling
-pub expansion_keeps : (p : Problem) (best after : Option ScheduleOf) (nodes : List Subproblem) (node : Subproblem) (report : Expansion) → IsFair report → report.node.project ≡ p → node.pairs ≡ report.node.pairs → ((s : List ℤ) → IsShorterThan best s → IsBelow report.ceiling s) → IsShorterOf best report.found after → IsCovered p best (nodes ++ node ∷ []) → IsCovered p after (nodes ++ report.children)
+pub expansion_keeps : (p : Problem) (best after : Option ScheduleOf) (nodes : List Subproblem) (node : Subproblem)
+    (report : Expansion) → IsFair report → report.node.project ≡ p → node.pairs ≡ report.node.pairs
+    → ((s : List ℤ) → IsShorterThan best s → IsBelow report.ceiling s) → IsShorterOf best report.found after
+    → IsCovered p best (nodes ++ node ∷ []) → IsCovered p after (nodes ++ report.children)
 expansion_keeps p best after nodes node report fair project pairs below shorter_of covered = record {
   of_best = best_after p best after report.found report.node project covered.of_best fair.of_found shorter_of.from;
-  of_nodes = All-append (IsNodeOf p) nodes report.children (all_left (IsNodeOf p) nodes (node ∷ []) covered.of_nodes) (All-weaker (IsChildOf report.node) (IsNodeOf p) (λ child k. child_is_node p report.node child project k) report.children fair.of_children);
+  of_nodes = All-append (IsNodeOf p) nodes report.children (all_left (IsNodeOf p) nodes (node ∷ []) covered.of_nodes)
+      (All-weaker (IsChildOf report.node) (IsNodeOf p) (λ child k. child_is_node p report.node child project k)
+      report.children fair.of_children);
   covers = λ s feasible shorter.
       let before : IsShorterThan best s = shorter_of.than_best s shorter in
       ⊎_elim
       (λ (early : Any (λ n. NodeStandsFor n s) nodes). any_left (λ n. NodeStandsFor n s) nodes report.children early)
-      (λ (last : NodeStandsFor node s). any_right (λ n. NodeStandsFor n s) nodes report.children (fair.covers s (of_report s last) (below s before) (shorter_of.than_found s shorter)))
+      (λ (last : NodeStandsFor node s). any_right (λ n. NodeStandsFor n s) nodes report.children
+      (fair.covers s (of_report s last) (below s before) (shorter_of.than_found s shorter)))
       (any_cases (λ n. NodeStandsFor n s) nodes node (covered.covers s feasible before));
 }
   where

@@ -1,5 +1,7 @@
 -- What a node's matrix says: of the schedules that keep its pairs, and of one pair more.
-use Rattle.std.proofs.Common.{◌≡◌, refl, sym, ap, subst, ◌-◌, ◌<◌, ◌≤◌, arith, ℤ, pos, ◌+ℤ◌, ◌≤ℤ◌, ◌<ℤ◌, List, [], ◌∷◌, ◌++◌, length, Option, None, Some, true, false, ◌∙◌, IfSome, FitsSigned, int_lt, if◌then◌else◌}
+use Rattle.std.proofs.Common.{◌≡◌, refl, sym, ap, subst, ◌-◌, ◌<◌, ◌≤◌, arith, ℤ, pos, ◌+ℤ◌, ◌≤ℤ◌, ◌<ℤ◌, List, [], ◌∷◌}
+use Rattle.std.proofs.Common.{◌++◌, length, Option, None, Some, true, false, ◌∙◌, IfSome, FitsSigned, int_lt}
+use Rattle.std.proofs.Common.{if◌then◌else◌}
 use Rattle.std.specs.Option.{unwrap_or}
 use Rattle.std.specs.Int.{w64}
 use Rattle.std.specs.Int.Signed.{lt_z}
@@ -28,7 +30,9 @@ pub ends_of : (p : Problem) (pair : Pair) → NameActivities p (pair ∷ []) →
 ends_of p pair named = All-head (λ (q : Pair). (q.before < activity_count p) × (q.after < activity_count p)) pair [] named
 
 -- a way back that is too long for the pair's first activity closes a positive walk
-pub closes_over : (p : Problem) (pairs : List Pair) (pair : Pair) (rows : Rows) (back : ℤ) → NameActivities p (pair ∷ []) → IsMatrixOf (activity_count p) (arcs_of p pairs) rows → entry rows pair.after pair.before ≡ Some back → pos 0 <ℤ (back +ℤ duration p pair.before) →
+pub closes_over : (p : Problem) (pairs : List Pair) (pair : Pair) (rows : Rows) (back : ℤ)
+    → NameActivities p (pair ∷ []) → IsMatrixOf (activity_count p) (arcs_of p pairs) rows
+    → entry rows pair.after pair.before ≡ Some back → pos 0 <ℤ (back +ℤ duration p pair.before) →
     HasPositiveCycle (arcs_of p (pairs ++ pair ∷ []))
 closes_over p pairs pair rows back named m e positive =
     let ends = ends_of p pair named in
@@ -49,7 +53,8 @@ way_at_most (Some z) (Some x) (Some y) d head rest e f = by_lt z ((x +ℤ d) +�
 
 -- the way to the pair, its first activity, and the way from it weigh at most the critical weight with the pair
 pub least_with_critical : (p : Problem) (pairs : List Pair) (pair : Pair) (rows : Rows) → IsProjectMatrix p pairs rows → NameActivities p (pair ∷ []) →
-    ((unwrap_or (entry rows 0 pair.before) (pos 0) +ℤ duration p pair.before) +ℤ unwrap_or (entry rows pair.after (end_of p)) (pos 0)) ≤ℤ critical_weight (rows_over (pair_arc p pair) rows)
+    ((unwrap_or (entry rows 0 pair.before) (pos 0) +ℤ duration p pair.before) +ℤ unwrap_or
+    (entry rows pair.after (end_of p)) (pos 0)) ≤ℤ critical_weight (rows_over (pair_arc p pair) rows)
 least_with_critical p pairs pair rows m named =
     let ends = ends_of p pair named in
     let two : 2 ≤ activity_count p = m.limits.two_dummies in
@@ -57,14 +62,21 @@ least_with_critical p pairs pair rows m named =
     let first : 0 < activity_count p = omega arith in
     let last : end_of p < activity_count p = omega arith in
     let e : Lag = pair_arc p pair in
-    let head = reached (arcs_of p pairs) 0 pair.before (entry rows 0 pair.before) (pos 0) (m.matrix.greatest 0 pair.before first ends.0) (from_start p pairs pair.before ends.0) in
-    let rest = reached (arcs_of p pairs) pair.after (end_of p) (entry rows pair.after (end_of p)) (duration p pair.after) (m.matrix.greatest pair.after (end_of p) ends.1 last) (to_end p pairs pair.after m.limits ends.1) in
+    let head = reached (arcs_of p pairs) 0 pair.before (entry rows 0 pair.before) (pos 0)
+    (m.matrix.greatest 0 pair.before first ends.0) (from_start p pairs pair.before ends.0) in
+    let rest = reached (arcs_of p pairs) pair.after (end_of p) (entry rows pair.after (end_of p))
+    (duration p pair.after) (m.matrix.greatest pair.after (end_of p) ends.1 last)
+    (to_end p pairs pair.after m.limits ends.1) in
     let whole : critical_weight (rows_over e rows) ≡ unwrap_or (entry_over e rows 0 (end_of p)) (pos 0) =
-    ap (λ n. unwrap_or (entry (rows_over e rows) 0 (n - 1)) (pos 0)) (length-rows_over e rows ∙ size) ∙ ap (λ (o : Option ℤ). unwrap_or o (pos 0)) (entry-rows_over e rows 0 (end_of p) (omega arith) (omega arith)) in
-    rw whole (way_at_most (entry rows 0 (end_of p)) (entry rows 0 pair.before) (entry rows pair.after (end_of p)) (duration p pair.before) head.value rest.value head.is rest.is)
+    ap (λ n. unwrap_or (entry (rows_over e rows) 0 (n - 1)) (pos 0)) (length-rows_over e rows ∙ size)
+    ∙ ap (λ (o : Option ℤ). unwrap_or o (pos 0)) (entry-rows_over e rows 0 (end_of p) (omega arith) (omega arith))
+    in
+    rw whole (way_at_most (entry rows 0 (end_of p)) (entry rows 0 pair.before) (entry rows pair.after (end_of p))
+    (duration p pair.before) head.value rest.value head.is rest.is)
 
 -- both activities of the pair have a row and a column
-pub rows_of : (p : Problem) (pairs : List Pair) (rows : Rows) (pair : Pair) → IsProjectMatrix p pairs rows → NameActivities p (pair ∷ []) → (pair.before < length rows) × (pair.after < length rows)
+pub rows_of : (p : Problem) (pairs : List Pair) (rows : Rows) (pair : Pair) → IsProjectMatrix p pairs rows
+    → NameActivities p (pair ∷ []) → (pair.before < length rows) × (pair.after < length rows)
 rows_of p pairs rows pair m named =
     let ends = ends_of p pair named in
     let long : length rows ≡ activity_count p = m.matrix.square.0 in
@@ -87,7 +99,8 @@ pub positive_from : (x : ℤ) → lt_z (pos 0) x ≡ true → pos 0 <ℤ x
 positive_from x h = grind (arith, ints)
 
 -- a way back that is not too long closes nothing
-pub closes_none : (p : Problem) (pair : Pair) (rows : Rows) (back : ℤ) → entry rows pair.after pair.before ≡ Some back → (back +ℤ duration p pair.before) ≤ℤ pos 0 → ClosesNone (pair_arc p pair) rows
+pub closes_none : (p : Problem) (pair : Pair) (rows : Rows) (back : ℤ) → entry rows pair.after pair.before ≡ Some back
+    → (back +ℤ duration p pair.before) ≤ℤ pos 0 → ClosesNone (pair_arc p pair) rows
 closes_none p pair rows back e low = λ x f.
     let same : x ≡ back = same_some x back (entry rows pair.after pair.before) f e in
     omega (arith, ints)
@@ -99,12 +112,14 @@ pub not_positive : (x : ℤ) → lt_z (pos 0) x ≡ false → x ≤ℤ pos 0
 not_positive x h = grind (arith, ints)
 
 -- the matrix with one pair more that closes nothing
-pub matrix_with : (node : Subproblem) (pair : Pair) (rows : Rows) → IsTiedTo node rows → NameActivities node.project (pair ∷ []) → ClosesNone (pair_arc node.project pair) rows →
+pub matrix_with : (node : Subproblem) (pair : Pair) (rows : Rows) → IsTiedTo node rows
+    → NameActivities node.project (pair ∷ []) → ClosesNone (pair_arc node.project pair) rows →
     IsProjectMatrix node.project (node.pairs ++ pair ∷ []) (rows_over (pair_arc node.project pair) rows)
 matrix_with node pair rows tied named none = matrix_more node.project node.pairs pair rows named none tied.matrix
 
 -- the node without pairs
-pub root_is_node : (p : Problem) (rows : Rows) (bound : ℤ) → IsProjectMatrix p [] rows → IsBoundOf p rows bound → IsTrueBoundFor p rows bound → IsNode (record { project = p; pairs = []; bound = bound })
+pub root_is_node : (p : Problem) (rows : Rows) (bound : ℤ) → IsProjectMatrix p [] rows → IsBoundOf p rows bound
+    → IsTrueBoundFor p rows bound → IsNode (record { project = p; pairs = []; bound = bound })
 root_is_node p rows bound m bound_of holds = record {
   limits = m.limits;
   named = m.named;
@@ -118,7 +133,8 @@ pub no_pairs : (p : Problem) (rows : Rows) → IsProject p → IsMatrixOf (activ
 no_pairs p rows is m = record { limits = is; named = All-nil (λ (q : Pair). (q.before < activity_count p) × (q.after < activity_count p)); matrix = m }
 
 -- a node that has just these parts is the root
-pub root_of : (p : Problem) (root : Subproblem) (bound : ℤ) → root ≡ record { project = p; pairs = []; bound = bound } → IsNode (record { project = p; pairs = []; bound = bound }) → IsRootOf p root
+pub root_of : (p : Problem) (root : Subproblem) (bound : ℤ) → root ≡ record { project = p; pairs = []; bound = bound }
+    → IsNode (record { project = p; pairs = []; bound = bound }) → IsRootOf p root
 root_of p root bound is is_node = record {
   of_project = record { project = ap (λ (n : Subproblem). n.project) is; is_node = subst (λ (n : Subproblem). IsNode n) (sym is) is_node };
   no_pairs = ap (λ (n : Subproblem). n.pairs) is;

@@ -1,6 +1,7 @@
 -- What the overload of a least schedule gives: members of a forbidden set that take time, and ordered
 -- pairs that are new to the node.
-use Rattle.std.proofs.Common.{◌≡◌, refl, sym, ap, ℕ, ◌-◌, ◌<◌, ◌≤◌, true, ◌&&◌, List, [], ◌∷◌, length, get_or, arith, Option, Some, None, ℤ, pos, ◌+ℤ◌, ◌≤ℤ◌, ◌<ℤ◌, int_le, int_lt}
+use Rattle.std.proofs.Common.{◌≡◌, refl, sym, ap, ℕ, ◌-◌, ◌<◌, ◌≤◌, true, ◌&&◌, List, [], ◌∷◌, length, get_or, arith}
+use Rattle.std.proofs.Common.{Option, Some, None, ℤ, pos, ◌+ℤ◌, ◌≤ℤ◌, ◌<ℤ◌, int_le, int_lt}
 use Rattle.std.specs.List.{All, Contains}
 use Rattle.std.specs.List.Sorted.{IsStrictlyIncreasing}
 use Rattle.std.proofs.lemmas.Int.{ints}
@@ -49,7 +50,8 @@ takes_time p s t i h =
     let ends = ends_if (start s i) t (start s i +ℤ duration p i) h in
     omega (arith, ints)
 
-forbidden_together : (p : Problem) (s : List ℤ) (t : ℤ) (k : ℕ) (set : List ℕ) → k < resource_count p → RunTogether p s t set → IsStrictlyIncreasing set → IsForbidden p k set → IsRightSet p k set
+forbidden_together : (p : Problem) (s : List ℤ) (t : ℤ) (k : ℕ) (set : List ℕ) → k < resource_count p
+    → RunTogether p s t set → IsStrictlyIncreasing set → IsForbidden p k set → IsRightSet p k set
 forbidden_together p s t k set in_range together rising forbidden = record {
   in_range = in_range;
   rising = rising;
@@ -59,12 +61,16 @@ forbidden_together p s t k set in_range together rising forbidden = record {
 }
 
 -- a minimal forbidden set of activities that run together
-pub minimal_together : (p : Problem) (s : List ℤ) (t : ℤ) (k : ℕ) (runs set : List ℕ) → k < resource_count p → runs ≡ running p s t → All (Contains runs) set → IsMinimalForbidden p k set → IsRightSet p k set
-minimal_together p s t k runs set in_range e within minimal = forbidden_together p s t k set in_range (run_together p s t runs set e within) minimal.rising minimal.forbidden
+pub minimal_together : (p : Problem) (s : List ℤ) (t : ℤ) (k : ℕ) (runs set : List ℕ) → k < resource_count p
+    → runs ≡ running p s t → All (Contains runs) set → IsMinimalForbidden p k set → IsRightSet p k set
+minimal_together p s t k runs set in_range e within minimal =
+    forbidden_together p s t k set in_range (run_together p s t runs set e within) minimal.rising minimal.forbidden
 
 -- ---- their pairs are new to the node
 
-new_pair : (node : Subproblem) (s : List ℤ) (t : ℤ) (i j : ℕ) → IsLeastSchedule node.project node.pairs s → i < activity_count node.project → j < activity_count node.project → is_running node.project s t i ≡ true → is_running node.project s t j ≡ true → IsNewTo node (pair_of i j)
+new_pair : (node : Subproblem) (s : List ℤ) (t : ℤ) (i j : ℕ) → IsLeastSchedule node.project node.pairs s
+    → i < activity_count node.project → j < activity_count node.project → is_running node.project s t i ≡ true
+    → is_running node.project s t j ≡ true → IsNewTo node (pair_of i j)
 new_pair node s t i j least below_i below_j runs_i runs_j other other_least keeps =
     let ends = ends_if (start s i) t (start s i +ℤ duration node.project i) runs_i in
     let starts = starts_if (start s j) t (start s j +ℤ duration node.project j) runs_j in
@@ -72,7 +78,8 @@ new_pair node s t i j least below_i below_j runs_i runs_j other other_least keep
     let second = other_least.least s least.schedule least.keeps j below_j in
     absurd (omega (arith, ints))
 
-pub new_pairs : (node : Subproblem) (s : List ℤ) (t : ℤ) (set : List ℕ) → IsLeastSchedule node.project node.pairs s → RunTogether node.project s t set → All (IsNewTo node) (ordered_pairs set)
+pub new_pairs : (node : Subproblem) (s : List ℤ) (t : ℤ) (set : List ℕ) → IsLeastSchedule node.project node.pairs s
+    → RunTogether node.project s t set → All (IsNewTo node) (ordered_pairs set)
 new_pairs node s t set least together =
     all_pairs (IsNewTo node) set (λ i j ci cj.
     new_pair node s t i j least
@@ -101,8 +108,10 @@ lies_between p i is known long =
 pub few_pairs : (p : Problem) (k : ℕ) (set : List ℕ) → IsProject p → IsRightSet p k set → length (ordered_pairs set) ≤ MAX_CHILDREN
 few_pairs p k set is together =
     let between : (i : ℕ) → Contains set i → (1 ≤ i) × (i < 1001) = λ i c.
-    lies_between p i is (All-contains (λ a. a < activity_count p) set i together.named c) (All-contains (λ a. pos 0 <ℤ duration p a) set i together.take_time c) in
-    let members : length set ≤ 1000 = rising_length 1 1000 set (begins set (λ i c. (between i c).0)) together.rising (λ j d l. (between (get_or set j d) (Contains-get_or set j d l)).1) in
+    lies_between p i is (All-contains (λ a. a < activity_count p) set i together.named c)
+    (All-contains (λ a. pos 0 <ℤ duration p a) set i together.take_time c) in
+    let members : length set ≤ 1000 = rising_length 1 1000 set (begins set (λ i c. (between i c).0)) together.rising
+    (λ j d l. (between (get_or set j d) (Contains-get_or set j d l)).1) in
     let fewer : length set - 1 ≤ 999 = omega arith in
     omega (arith, count_pairs set, mul-le-mul_left (length set) fewer, mul-le-mul_right 999 members)
   where
@@ -117,7 +126,8 @@ pub node_cut : (node : Subproblem) (ceiling : Option ℤ) → IsNode node → Re
 node_cut node None is reaches = reaches
 node_cut node (Some limit) is reaches = record { is_live = is.is_live; bound = node.bound; bound_of = is.bound_of; reaches = reaches }
 
-pub report_cut : (node : Subproblem) (ceiling : Option ℤ) → IsNode node → Reaches ceiling node.bound → ((s : List ℤ) → NodeStandsFor node s → ¬ IsBelow ceiling s) →
+pub report_cut : (node : Subproblem) (ceiling : Option ℤ) → IsNode node → Reaches ceiling node.bound
+    → ((s : List ℤ) → NodeStandsFor node s → ¬ IsBelow ceiling s) →
     IsReport (record { node = node; ceiling = ceiling; found = None; split = None; fates = []; children = [] })
 report_cut node ceiling is reaches none = record {
   is_node = is;
@@ -130,7 +140,9 @@ report_cut node ceiling is reaches none = record {
   told = record { no_fates = refl; no_children = refl; of_found = node_cut node ceiling is reaches };
 }
 
-pub report_found : (node : Subproblem) (ceiling : Option ℤ) (found : ScheduleOf) → IsNode node → found.project ≡ node.project → IsLeastSchedule node.project node.pairs found.starts → IsWithinCapacities node.project found.starts →
+pub report_found : (node : Subproblem) (ceiling : Option ℤ) (found : ScheduleOf) → IsNode node
+    → found.project ≡ node.project → IsLeastSchedule node.project node.pairs found.starts
+    → IsWithinCapacities node.project found.starts →
     IsReport (record { node = node; ceiling = ceiling; found = Some found; split = None; fates = []; children = [] })
 report_found node ceiling found is project least within = record {
   is_node = is;
@@ -140,7 +152,8 @@ report_found node ceiling found is project least within = record {
     covers = λ s stands below shorter.
         let two : 2 ≤ activity_count node.project = is.limits.two_dummies in
         let last : end_of node.project < activity_count node.project = omega arith in
-        let long : start found.starts (end_of node.project) ≤ℤ start s (end_of node.project) = least.least s stands.feasible.schedule stands.keeps (end_of node.project) last in
+        let long : start found.starts (end_of node.project) ≤ℤ start s (end_of node.project) =
+        least.least s stands.feasible.schedule stands.keeps (end_of node.project) last in
         let here : start found.starts (end_of node.project) ≡ makespan found.starts = ap (λ n. start found.starts (n - 1)) (sym least.schedule.whole) in
         let there : start s (end_of node.project) ≡ makespan s = ap (λ n. start s (n - 1)) (sym stands.feasible.schedule.whole) in
         absurd (omega (arith, ints, shorter));
@@ -150,7 +163,9 @@ report_found node ceiling found is project least within = record {
 }
 
 -- fates of the ordered pairs of a set make a fair report, since some pair is always kept
-pub report_split : (node : Subproblem) (ceiling : Option ℤ) (set : MinimalSet) (fates : Fates) (children : List Subproblem) → IsNode node → IsRightSet node.project set.resource set.members → All (IsNewTo node) (ordered_pairs set.members) →
+pub report_split : (node : Subproblem) (ceiling : Option ℤ) (set : MinimalSet) (fates : Fates)
+    (children : List Subproblem) → IsNode node → IsRightSet node.project set.resource set.members
+    → All (IsNewTo node) (ordered_pairs set.members) →
     AreFates node ceiling (ordered_pairs set.members) fates children →
     IsReport (record { node = node; ceiling = ceiling; found = None; split = Some set; fates = fates; children = children })
 report_split node ceiling set fates children is right new are =
@@ -161,7 +176,8 @@ report_split node ceiling set fates children is right new are =
       fair = record {
         of_found = tt;
         of_children = fates_children node ceiling pairs fates children are new;
-        covers = λ s stands below shorter. fates_cover node ceiling pairs fates children are s stands below (some_kept node.project set.resource set.members right s stands.feasible);
+        covers = λ s stands below shorter. fates_cover node ceiling pairs fates children are s stands below
+            (some_kept node.project set.resource set.members right s stands.feasible);
         few = omega (arith, fates_few node ceiling pairs fates children are, most);
       };
       told = record { right_set = right; none_found = refl; fates = are };

@@ -1,5 +1,6 @@
 //! A call: a job of psmax, and the names of files, of psprove too.
 
+use crate::verifying::VerifyCall;
 use runs::Job;
 
 /// The names of the files that a call uses: its second input, and the output of its record.
@@ -14,4 +15,11 @@ pub struct FileNames {
 pub struct Call {
     pub job: Job,
     pub names: FileNames,
+}
+
+/// What words of psmax ask for.
+#[derive(Debug, Drop)]
+pub enum PsmaxCall {
+    Run(Call),
+    Verify(VerifyCall),
 }

@@ -1,12 +1,15 @@
 //! The words of the command line, by `clap`.
 
 ghost use Rattle.std.specs.Prelude.{◌≡◌, true, false, IfOk, IfSome};
-ghost use Rattle.calls.specs.Calls.{IsCall};
+ghost use Rattle.calls.specs.Calls.{IsCall, IsPsmaxCall};
 ghost use Rattle.runs.specs.Outcome.{IsJob, reads_second, writes_record};
 
-use crate::call::{Call, FileNames};
+use crate::call::{Call, FileNames, PsmaxCall};
 use crate::help;
-use crate::options::{file, flag, number, program_command, project_subcommand, subcommand};
+use crate::options::{
+    file, flag, heading, number, program_command, project_subcommand, subcommand,
+};
+use crate::verifying::{verify_call, verify_command};
 use book::{MAX_WORKERS, are_allowed};
 use clap::error::ErrorKind;
 use clap::{ArgMatches, Command};
@@ -101,14 +104,14 @@ pub fn matches_of<'a>(
     }
 }
 
-fn solve_command<'a>(alloc: Global) -> Result<Command<'a>, AllocError> {
+fn solve_command<'a>(alloc: Global, heading: &'a str) -> Result<Command<'a>, AllocError> {
     let nodes = "Stop after L nodes";
     let threads = "Search with N threads, 1 to 64";
     let start = "Start from the feasible schedule in FILE";
     let json = "Print the answer as one line of JSON";
     let record = "Write a record that proves the answer into FILE";
     let about = "Print a shortest schedule of a project";
-    subcommand(alloc, help::HEADING, "solve", about, help::SOLVE)
+    subcommand(alloc, heading, "solve", about, help::SOLVE)
         .arg(number(alloc, "nodes", "L", nodes, 1, MAX_EXPANDED as i64).default_value(
             DEFAULT_EXPANDED,
         ))?
@@ -118,19 +121,17 @@ fn solve_command<'a>(alloc: Global) -> Result<Command<'a>, AllocError> {
         .arg(file(alloc, "record", record))
 }
 
-fn command<'a>(alloc: Global) -> Result<Command<'a>, AllocError> {
-    let heading = help::HEADING;
+fn command<'a>(alloc: Global, heading: &'a str) -> Result<Command<'a>, AllocError> {
     let about = "Solve projects with resources and time lags, with every answer proved";
     let earliest = "Print the earliest starts by a project's time lags alone";
     let check = "Check starts against a project in a file";
     let tidy = "Print the canonical text of a project";
-    let verify = "Check the record of a search against a project in a file";
     program_command(alloc, "psmax", heading, about, help::PROGRAM)?
         .subcommand(subcommand(alloc, heading, "earliest", earliest, help::EARLIEST))?
-        .subcommand(solve_command(alloc)?)?
+        .subcommand(solve_command(alloc, heading)?)?
         .subcommand(project_subcommand(alloc, heading, "check", check, help::CHECK)?)?
         .subcommand(subcommand(alloc, heading, "tidy", tidy, help::TIDY))?
-        .subcommand(project_subcommand(alloc, heading, "verify", verify, help::VERIFY)?)
+        .subcommand(verify_command(alloc, heading)?)
 }
 
 fn earliest_call() -> Call
@@ -183,23 +184,15 @@ fn solve_call(alloc: Global, matches: &ArgMatches<'_>) -> Result<Option<Call>, A
     }))
 }
 
-/// The call of a job that reads a project from a file and has no more words. None if the file isn't named, which `clap`
-/// doesn't let pass.
-fn project_call(
-    alloc: Global,
-    job: Job,
-    matches: &ArgMatches<'_>,
-) -> Result<Option<Call>, AllocError>
-    requires job { IsJob job }
-    requires second { reads_second job ≡ true }
-    requires unrecorded { writes_record job ≡ false }
+/// The call that checks starts. None if the project's file isn't named, which `clap` doesn't let pass.
+fn check_call(alloc: Global, matches: &ArgMatches<'_>) -> Result<Option<Call>, AllocError>
     ensures { IfOk result (λ call. IfSome call IsCall) }
 {
     let Some(name) = file_name(alloc, matches, "project")? else {
         return Ok(None);
     };
     Ok(Some(Call {
-        job,
+        job: Job::Check,
         names: FileNames {
             second: Some(name),
             record_file: None,
@@ -219,26 +212,36 @@ fn tidy_call() -> Call
     }
 }
 
-/// The call that the matches make. None if words make no call, which `clap` doesn't let pass.
+/// The call of a job that the matches make. None if words make no call, which `clap` doesn't let pass.
 fn found_call(alloc: Global, matches: &ArgMatches<'_>) -> Result<Option<Call>, AllocError>
     ensures { IfOk result (λ call. IfSome call IsCall) }
 {
     match matches.subcommand() {
         Some(("earliest", _)) => Ok(Some(earliest_call())),
         Some(("solve", found)) => solve_call(alloc, found),
-        Some(("check", found)) => project_call(alloc, Job::Check, found),
+        Some(("check", found)) => check_call(alloc, found),
         Some(("tidy", _)) => Ok(Some(tidy_call())),
-        Some(("verify", found)) => project_call(alloc, Job::Verify, found),
         _ => Ok(None),
     }
 }
 
-/// The call that words make; the first word is the program's name.
-pub fn call_of(alloc: Global, words: &[String]) -> Result<Call, ArgumentsFault>
-    ensures { IfOk result IsCall }
+/// What the matches ask for.
+fn found(alloc: Global, matches: &ArgMatches<'_>) -> Result<Option<PsmaxCall>, ArgumentsFault>
+    ensures { IfOk result (λ call. IfSome call IsPsmaxCall) }
 {
-    let matches = matches_of(alloc, command(alloc)?, words)?;
-    found_call(alloc, &matches)?.ok_or(ArgumentsFault::Bad {
+    if let Some(("verify", found)) = matches.subcommand() {
+        return Ok(verify_call(alloc, found)?.map(PsmaxCall::Verify));
+    }
+    Ok(found_call(alloc, matches)?.map(PsmaxCall::Run))
+}
+
+/// The call that words make; the first word is the program's name.
+pub fn call_of(alloc: Global, words: &[String]) -> Result<PsmaxCall, ArgumentsFault>
+    ensures { IfOk result IsPsmaxCall }
+{
+    let heading = heading(alloc, "psmax")?;
+    let matches = matches_of(alloc, command(alloc, &heading)?, words)?;
+    found(alloc, &matches)?.ok_or(ArgumentsFault::Bad {
         text: String::new(alloc),
     })
 }

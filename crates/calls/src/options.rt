@@ -1,10 +1,13 @@
 //! Programs, subcommands and options as both programs have them, by `clap`.
 
+use answers::VERSION;
 use clap::{Arg, ArgAction, Command, value_parser};
 use std::alloc::{AllocError, Global};
 
-/// The version of both programs.
-const VERSION: &str = "0.9.0";
+/// The heading of every help of a program of this name.
+pub fn heading(alloc: Global, program: &str) -> Result<String, AllocError> {
+    format!(in alloc; "{program} {VERSION}")
+}
 
 /// A program of this name without its subcommands: its heading, what it does in a line, and what stands below.
 pub fn program_command<'a>(

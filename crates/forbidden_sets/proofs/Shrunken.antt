@@ -1,5 +1,7 @@
 -- Dropping from a forbidden set until no member can be spared leaves a minimal one.
-use Rattle.std.proofs.Common.{◌≡◌, ℕ, zero, suc, ◌+◌, ◌<◌, ◌≤◌, cond, eqb, List, [], ◌∷◌, length, get_or, refl, ⊎_elim, arith, add-one, Bool, true, false, ◌++◌, take, drop, map, sym, ap, ◌∙◌, ◌-◌, inl, inr, Ordering}
+use Rattle.std.proofs.Common.{◌≡◌, ℕ, zero, suc, ◌+◌, ◌<◌, ◌≤◌, cond, eqb, List, [], ◌∷◌, length, get_or, refl, ⊎_elim}
+use Rattle.std.proofs.Common.{arith, add-one, Bool, true, false, ◌++◌, take, drop, map, sym, ap, ◌∙◌, ◌-◌, inl, inr}
+use Rattle.std.proofs.Common.{Ordering}
 use Rattle.std.specs.List.{All, sum_by, AllPairs, Contains, filter, sum}
 use Rattle.std.specs.List.Sorted.{IsStrictlyIncreasing, IsNonDecreasing, IsPermutation, IsSorted}
 use Rattle.std.proofs.lemmas.Bool.{cases_lt}
@@ -90,7 +92,8 @@ length_rising xs n h below =
     (cases_lt n (length xs))
 
 -- a proper part of a list misses the number of a member that it leaves out
-filter_less : (r : ℕ → ℕ) (keep : ℕ → Bool) (x : ℕ) (xs : List ℕ) → sum_by r (cond (keep x) (x ∷ filter keep xs) (filter keep xs)) ≤ r x + sum_by r (filter keep xs)
+filter_less : (r : ℕ → ℕ) (keep : ℕ → Bool) (x : ℕ) (xs : List ℕ)
+    → sum_by r (cond (keep x) (x ∷ filter keep xs) (filter keep xs)) ≤ r x + sum_by r (filter keep xs)
 filter_less r keep x xs = filter_less_by r (keep x) x (filter keep xs)
   where
     filter_less_by : (r : ℕ → ℕ) (b : Bool) (x : ℕ) (ys : List ℕ) → sum_by r (cond b (x ∷ ys) ys) ≤ r x + sum_by r ys
@@ -102,12 +105,14 @@ filter_le r keep [] = omega arith
 filter_le r keep (x ∷ xs) = omega (arith, sum_by-cons r x xs, filter_less r keep x xs, filter_le r keep xs)
 
 -- at a place of the list
-filter_misses : (r : ℕ → ℕ) (keep : ℕ → Bool) (xs : List ℕ) (k d : ℕ) → k < length xs → keep (get_or xs k d) ≡ false → sum_by r (filter keep xs) + r (get_or xs k d) ≤ sum_by r xs
+filter_misses : (r : ℕ → ℕ) (keep : ℕ → Bool) (xs : List ℕ) (k d : ℕ) → k < length xs → keep (get_or xs k d) ≡ false
+    → sum_by r (filter keep xs) + r (get_or xs k d) ≤ sum_by r xs
 filter_misses r keep [] k d l e = absurd (omega arith)
 filter_misses r keep (x ∷ xs) zero d l e = rw e (omega (arith, sum_by-cons r x xs, filter_le r keep xs))
 filter_misses r keep (x ∷ xs) (suc k) d l e = omega (arith, sum_by-cons r x xs, filter_less r keep x xs, filter_misses r keep xs k d (omega arith) e)
 
-pub minimal_from_needed : (r : ℕ → ℕ) (R : ℕ) (xs : List ℕ) → All (λ i. sum_by r xs ≤ R + r i) xs → (keep : ℕ → Bool) (i : ℕ) → Contains xs i → keep i ≡ false → ¬ (R < sum_by r (filter keep xs))
+pub minimal_from_needed : (r : ℕ → ℕ) (R : ℕ) (xs : List ℕ) → All (λ i. sum_by r xs ≤ R + r i) xs
+    → (keep : ℕ → Bool) (i : ℕ) → Contains xs i → keep i ≡ false → ¬ (R < sum_by r (filter keep xs))
 minimal_from_needed r R xs needed keep i (k, l, e) out more =
     let there : keep (get_or xs k i) ≡ false = ap keep e ∙ out in
     let missing : sum_by r (filter keep xs) + r (get_or xs k i) ≤ sum_by r xs = filter_misses r keep xs k i l there in
@@ -121,7 +126,9 @@ pub record AreSpared (capacity : ℕ) (loads : List Demand) (i rest : ℕ) : Typ
   pub over : capacity < rest
 
 -- and no other can be spared
-pub needed_after : (capacity : ℕ) (loads : List Demand) (i rest : ℕ) → AllPairs ComesBefore loads → AreSpared capacity loads i rest → (e : Demand) → (i < length loads → rest - (get_or loads i e).demand ≤ capacity) →
+pub needed_after : (capacity : ℕ) (loads : List Demand) (i rest : ℕ) → AllPairs ComesBefore loads
+    → AreSpared capacity loads i rest → (e : Demand) → (i < length loads → rest - (get_or loads i e).demand ≤ capacity)
+    →
     All (λ load. sum_by (λ load. load.demand) (drop i loads) ≤ capacity + load.demand) (drop i loads)
 needed_after capacity loads i rest order so_far e stop k d lt =
     let there : i + k < length loads = omega (arith, length-drop {A = Demand}) in
@@ -132,7 +139,10 @@ needed_after capacity loads i rest order so_far e stop k d lt =
     least_first : (i j : ℕ) (d : Demand) → i ≤ j → j < length loads → (get_or loads i d).demand ≤ (get_or loads j d).demand
     least_first i j d upto inside =
         ⊎_elim
-        (λ (less : i < j). ⊎_elim (λ (below : (get_or loads i d).demand < (get_or loads j d).demand). omega arith) (λ (same : ((get_or loads i d).demand ≡ (get_or loads j d).demand) × ((get_or loads i d).activity ≤ (get_or loads j d).activity)). omega (arith, same.0)) (order i j d less inside))
+        (λ (less : i < j). ⊎_elim (λ (below : (get_or loads i d).demand < (get_or loads j d).demand). omega arith)
+        (λ (same : ((get_or loads i d).demand ≡ (get_or loads j d).demand)
+        × ((get_or loads i d).activity ≤ (get_or loads j d).activity)). omega (arith, same.0))
+        (order i j d less inside))
         (λ (not_less : j ≤ i). let e : i ≡ j = omega arith in rw e (omega arith))
         (cases_lt i j)
 
@@ -161,7 +171,9 @@ grows activities i lt = take_more activities i 0 lt
 Contains-more : (activities : List ℕ) (i v : ℕ) → i < length activities → Contains (take i activities) v → Contains (take (i + 1) activities) v
 Contains-more activities i v lt has = rw (grows activities i lt) (Contains-append_left (take i activities) (get_or activities i 0 ∷ []) v has)
 
-pub no_load : (r : ℕ → ℕ) (activities : List ℕ) (i : ℕ) (loads : List Demand) → i < length activities → r (get_or activities i 0) ≡ 0 → AreDemands r (take i activities) loads → AreDemands r (take (i + 1) activities) loads
+pub no_load : (r : ℕ → ℕ) (activities : List ℕ) (i : ℕ) (loads : List Demand) → i < length activities
+    → r (get_or activities i 0) ≡ 0 → AreDemands r (take i activities) loads
+    → AreDemands r (take (i + 1) activities) loads
 no_load r activities i loads lt none are = record {
   among = λ k d l. Contains-more activities i (get_or loads k d).activity lt (are.among k d l);
   demands = are.demands;
@@ -169,14 +181,16 @@ no_load r activities i loads lt none are = record {
   total = omega (arith, are.total, sum_by_more r activities i 0 lt);
 }
 
-pub one_load : (r : ℕ → ℕ) (activities : List ℕ) (i demand : ℕ) (loads : List Demand) → i < length activities → demand ≡ r (get_or activities i 0) → AreDemands r (take i activities) loads →
+pub one_load : (r : ℕ → ℕ) (activities : List ℕ) (i demand : ℕ) (loads : List Demand) → i < length activities
+    → demand ≡ r (get_or activities i 0) → AreDemands r (take i activities) loads →
     AreDemands r (take (i + 1) activities) (loads ++ (record { demand = demand; activity = get_or activities i 0 }) ∷ [])
 one_load r activities i demand loads lt is are =
     let load : Demand = record { demand = demand; activity = get_or activities i 0 } in
     let last : Contains (take (i + 1) activities) (get_or activities i 0) =
     rw (grows activities i lt) (Contains-append_right (take i activities) (get_or activities i 0 ∷ []) (get_or activities i 0) (0, omega arith, refl)) in
     record {
-      among = All-push (λ (load : Demand). Contains (take (i + 1) activities) load.activity) loads load (λ k d l. Contains-more activities i (get_or loads k d).activity lt (are.among k d l)) last;
+      among = All-push (λ (load : Demand). Contains (take (i + 1) activities) load.activity) loads load
+          (λ k d l. Contains-more activities i (get_or loads k d).activity lt (are.among k d l)) last;
       demands = All-push (λ (load : Demand). load.demand ≡ r load.activity) loads load are.demands is;
       once = λ f. omega (arith, are.once f, sum_by_more f activities i 0 lt, sum_by_push (λ (load : Demand). f load.activity) loads load);
       total = omega (arith, are.total, sum_by_more r activities i 0 lt, sum_by_push (λ (load : Demand). load.demand) loads load, is);
@@ -191,7 +205,8 @@ loads_few r activities loads are = omega (arith, are.once (λ i. 1), ones loads,
     ones (x ∷ xs) = omega (arith, sum_by-cons (λ y. 1) x xs, ones xs)
 
 -- loads in another order
-pub AreDemands-permutation : (r : ℕ → ℕ) (activities : List ℕ) (loads other : List Demand) → IsPermutation loads other → AreDemands r activities loads → AreDemands r activities other
+pub AreDemands-permutation : (r : ℕ → ℕ) (activities : List ℕ) (loads other : List Demand) → IsPermutation loads other
+    → AreDemands r activities loads → AreDemands r activities other
 AreDemands-permutation r activities loads other moved are = record {
   among = All-permutation (λ (load : Demand). Contains activities load.activity) loads other moved are.among;
   demands = All-permutation (λ (load : Demand). load.demand ≡ r load.activity) loads other moved are.demands;
@@ -216,25 +231,43 @@ shrunk r capacity running loads i members rising are over needed moved up =
     let within : All (Contains loads) (drop i loads) = drop_within loads i in
     let activity : Demand → ℕ = λ load. load.activity in
     let demand : Demand → ℕ = λ load. load.demand in
-    let moved_sum : (f : ℕ → ℕ) → sum_by f members ≡ sum_by (λ load. f load.activity) kept = λ f. sum_by-IsPermutation f (map activity kept) members moved ∙ sum_by_map f activity kept in
-    let kept_demands : All (λ load. r load.activity ≡ load.demand) kept = λ k d l. sym (All-contains (λ (load : Demand). load.demand ≡ r load.activity) loads (get_or kept k d) are.demands (within k d l)) in
+    let moved_sum : (f : ℕ → ℕ) → sum_by f members ≡ sum_by (λ load. f load.activity) kept = λ f.
+    sum_by-IsPermutation f (map activity kept) members moved ∙ sum_by_map f activity kept in
+    let kept_demands : All (λ load. r load.activity ≡ load.demand) kept = λ k d l.
+    sym (All-contains (λ (load : Demand). load.demand ≡ r load.activity) loads (get_or kept k d) are.demands
+    (within k d l)) in
     let total : sum_by r members ≡ sum_by demand kept = moved_sum r ∙ sum_by_agree (λ (load : Demand). r load.activity) demand kept kept_demands in
     record {
-      run = All-permutation (Contains running) (map activity kept) members moved (All-map (Contains running) activity kept (λ k d l. All-contains (λ (load : Demand). Contains running load.activity) loads (get_or kept k d) are.among (within k d l)));
-      rising = rising_from_once members up (λ v. omega (arith, moved_sum (hit v), drop_part loads i (λ load. hit v load.activity), are.once (hit v), times_once v running rising));
+      run = All-permutation (Contains running) (map activity kept) members moved
+          (All-map (Contains running) activity kept
+          (λ k d l. All-contains (λ (load : Demand). Contains running load.activity) loads (get_or kept k d) are.among
+          (within k d l)));
+      rising = rising_from_once members up (λ v.
+          omega (
+            arith,
+            moved_sum (hit v),
+            drop_part loads i (λ load. hit v load.activity),
+            are.once (hit v),
+            times_once v running rising,
+          ));
       forbidden = rw total over;
-      needed = All-permutation (λ i. sum_by r members ≤ capacity + r i) (map activity kept) members moved (All-map (λ i. sum_by r members ≤ capacity + r i) activity kept (λ k d l. omega (arith, total, needed k d l, kept_demands k d l)));
+      needed = All-permutation (λ i. sum_by r members ≤ capacity + r i) (map activity kept) members moved
+          (All-map (λ i. sum_by r members ≤ capacity + r i) activity kept
+          (λ k d l. omega (arith, total, needed k d l, kept_demands k d l)));
     }
 
 pub sum_of_demands : (r : ℕ → ℕ) (xs : List ℕ) → sum (map r xs) ≡ sum_by r xs
 sum_of_demands r xs = sum-map r xs
 
 -- the same, of the list of the demands
-pub needed_demands : (r : ℕ → ℕ) (capacity : ℕ) (running members : List ℕ) → AreShrunk r capacity running members → All (λ demand. sum (map r members) ≤ capacity + demand) (map r members)
+pub needed_demands : (r : ℕ → ℕ) (capacity : ℕ) (running members : List ℕ) → AreShrunk r capacity running members
+    → All (λ demand. sum (map r members) ≤ capacity + demand) (map r members)
 needed_demands r capacity running members shrunk =
     All-map (λ demand. sum (map r members) ≤ capacity + demand) r members (λ k d l. omega (arith, sum_of_demands r members, shrunk.needed k d l))
 
-pub is_minimal_set : (resource capacity : ℕ) (r : ℕ → ℕ) (R : ℕ) (running numbers members demands : List ℕ) → AreShrunk r R running numbers → members ≡ numbers → demands ≡ map r numbers → capacity ≡ R → IsMinimalSet (record { resource = resource; capacity = capacity; members = members; demands = demands })
+pub is_minimal_set : (resource capacity : ℕ) (r : ℕ → ℕ) (R : ℕ) (running numbers members demands : List ℕ)
+    → AreShrunk r R running numbers → members ≡ numbers → demands ≡ map r numbers → capacity ≡ R
+    → IsMinimalSet (record { resource = resource; capacity = capacity; members = members; demands = demands })
 is_minimal_set resource capacity r R running numbers members demands shrunk em ed ec = record {
   rising = rw em shrunk.rising;
   paired = ap length ed ∙ length-map numbers r ∙ ap length (sym em);
@@ -242,7 +275,8 @@ is_minimal_set resource capacity r R running numbers members demands shrunk em e
   minimal = rw (ed, ec) (needed_demands r R running numbers shrunk);
 }
 
-pub is_minimal_forbidden : (P : Problem) (k : ℕ) (running members : List ℕ) → AreShrunk (demand P k) (capacity P k) running members → IsMinimalForbidden P k members
+pub is_minimal_forbidden : (P : Problem) (k : ℕ) (running members : List ℕ)
+    → AreShrunk (demand P k) (capacity P k) running members → IsMinimalForbidden P k members
 is_minimal_forbidden P k running members shrunk = record {
   rising = shrunk.rising;
   forbidden = shrunk.forbidden;
@@ -262,7 +296,9 @@ pub sorted_by_demand : (loads : List Demand) → IsSorted load_cmp loads → All
 sorted_by_demand loads sorted i j d early late =
     let x : Demand = get_or loads i d in
     let y : Demand = get_or loads j d in
-    let far = sorted_far (λ x y. is_lt (load_cmp x y)) (ranks_by (then_total (on_total (λ (l : Demand). l.demand) nat_cmp_total) (on_total (λ (l : Demand). l.activity) nat_cmp_total)) (λ l. l)) loads sorted i j d (omega arith) late in
+    let far = sorted_far (λ x y. is_lt (load_cmp x y))
+    (ranks_by (then_total (on_total (λ (l : Demand). l.demand) nat_cmp_total)
+    (on_total (λ (l : Demand). l.activity) nat_cmp_total)) (λ l. l)) loads sorted i j d (omega arith) late in
     ⊎_elim
     (λ (less : x.demand < y.demand). inl less)
     (λ (more : y.demand ≤ x.demand). inr (not_less x.demand y.demand x.activity y.activity far more))

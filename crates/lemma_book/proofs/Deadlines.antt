@@ -1,5 +1,6 @@
 -- With a deadline every activity reaches every other: by the end, the deadline and the start.
-use Rattle.std.proofs.Common.{◌≡◌, refl, subst, append-nil, ℕ, zero, suc, ◌<◌, ◌≤◌, ⊎_elim, arith, ℤ, pos, neg_ℤ, ◌+ℤ◌, ◌≤ℤ◌, List, [], ◌∷◌, ◌++◌, map, length, Option, None, Some}
+use Rattle.std.proofs.Common.{◌≡◌, refl, subst, append-nil, ℕ, zero, suc, ◌<◌, ◌≤◌, ⊎_elim, arith, ℤ, pos, neg_ℤ, ◌+ℤ◌}
+use Rattle.std.proofs.Common.{◌≤ℤ◌, List, [], ◌∷◌, ◌++◌, map, length, Option, None, Some}
 use Rattle.std.specs.List.{Contains, range_with_len}
 use Rattle.std.proofs.lemmas.Bool.{cases_lt}
 use Rattle.std.proofs.lemmas.Int.{ints}
@@ -33,8 +34,11 @@ record HaveDeadline (p : Problem) (arcs : List Lag) : Type 0 where
 end_rule : (p : Problem) (i : ℕ) → i < end_of p → Contains (rules p) (end_arc p i)
 end_rule p i lt =
     let long = length-map-range_with_len (end_arc p) 0 (end_of p) in
-    let here : Contains (map (end_arc p) (range_with_len 0 (end_of p))) (end_arc p i) = (i, rw long lt, get_or-map-range_with_len (end_arc p) 0 (end_of p) i i (end_arc p i) lt (omega arith)) in
-    Contains-append_right p.lags (implied_arcs p) (end_arc p i) (Contains-append_right (map start_arc (range_with_len 1 (end_of p))) (map (end_arc p) (range_with_len 0 (end_of p))) (end_arc p i) here)
+    let here : Contains (map (end_arc p) (range_with_len 0 (end_of p))) (end_arc p i) =
+    (i, rw long lt, get_or-map-range_with_len (end_arc p) 0 (end_of p) i i (end_arc p i) lt (omega arith)) in
+    Contains-append_right p.lags (implied_arcs p) (end_arc p i)
+    (Contains-append_right (map start_arc (range_with_len 1 (end_of p)))
+    (map (end_arc p) (range_with_len 0 (end_of p))) (end_arc p i) here)
 
 -- a walk that weighs nothing below 0
 record IsLightWalk (arcs : List Lag) (a b : ℕ) : Type 0 where
@@ -42,7 +46,8 @@ record IsLightWalk (arcs : List Lag) (a b : ℕ) : Type 0 where
   goes : IsWalk arcs a walk b
   weighs : pos 0 ≤ℤ weight walk
 
-to_end : (p : Problem) (arcs : List Lag) (a : ℕ) → IsProject p → ((e : Lag) → Contains (rules p) e → Contains arcs e) → a < activity_count p → IsLightWalk arcs a (end_of p)
+to_end : (p : Problem) (arcs : List Lag) (a : ℕ) → IsProject p → ((e : Lag) → Contains (rules p) e → Contains arcs e)
+    → a < activity_count p → IsLightWalk arcs a (end_of p)
 to_end p arcs a is there lt =
     ⊎_elim
     (λ (before : a < end_of p).
@@ -56,10 +61,16 @@ to_end p arcs a is there lt =
 
 from_start : (p : Problem) (arcs : List Lag) (b : ℕ) → ((e : Lag) → Contains (rules p) e → Contains arcs e) → b < activity_count p → IsLightWalk arcs 0 b
 from_start p arcs zero there lt = record { walk = []; goes = refl; weighs = omega (arith, ints) }
-from_start p arcs (suc b) there lt = record { walk = start_arc (suc b) ∷ []; goes = (there (start_arc (suc b)) (start_rule p b lt), refl, refl); weighs = omega (arith, ints) }
+from_start p arcs (suc b) there lt = record {
+  walk = start_arc (suc b) ∷ [];
+  goes = (there (start_arc (suc b)) (start_rule p b lt), refl, refl);
+  weighs =
+      omega (arith, ints);
+}
 
 -- an entry is at least a walk's weight
-reached : (n : ℕ) (arcs : List Lag) (rows : Rows) (a b : ℕ) (es : List Lag) → IsMatrixOf n arcs rows → a < n → b < n → IsWalk arcs a es b → Reaches (weight es) (entry rows a b)
+reached : (n : ℕ) (arcs : List Lag) (rows : Rows) (a b : ℕ) (es : List Lag) → IsMatrixOf n arcs rows → a < n → b < n
+    → IsWalk arcs a es b → Reaches (weight es) (entry rows a b)
 reached n arcs rows a b es m la lb goes = by_entry (entry rows a b) (m.greatest a b la lb)
   where
     by_entry : (o : Option ℤ) → IsGreatestWeight arcs a b o → Reaches (weight es) o
@@ -77,15 +88,20 @@ full_by_deadline p arcs rows have m a b la lb =
     let back = from_start p arcs b have.rules_there low_b in
     let arc : Lag = arc_of (end_of p) 0 have.weight in
     let round : List Lag = arc ∷ back.walk in
-    let goes : IsWalk arcs a (there.walk ++ arc ∷ back.walk) b = IsWalk-append arcs a (end_of p) b there.walk (arc ∷ back.walk) there.goes (have.deadline_there, refl, back.goes) in
+    let goes : IsWalk arcs a (there.walk ++ arc ∷ back.walk) b =
+    IsWalk-append arcs a (end_of p) b there.walk (arc ∷ back.walk) there.goes (have.deadline_there, refl, back.goes)
+    in
     let sum = weight-append there.walk (arc ∷ back.walk) in
     let first = there.weighs in
     let last = back.weighs in
     let least = have.least in
-    Reaches-weaker (neg_ℤ MAX_WALK_WEIGHT) (weight (there.walk ++ arc ∷ back.walk)) (entry rows a b) (omega (arith, ints, sum)) (reached (activity_count p) arcs rows a b (there.walk ++ arc ∷ back.walk) m low_a low_b goes)
+    Reaches-weaker (neg_ℤ MAX_WALK_WEIGHT) (weight (there.walk ++ arc ∷ back.walk)) (entry rows a b)
+    (omega (arith, ints, sum)) (reached (activity_count p) arcs rows a b (there.walk ++ arc ∷ back.walk) m low_a
+    low_b goes)
 
 -- and a deadline fills that of the rules
-pub fills_first : (p : Problem) (rows : Rows) (bound : ℤ) → IsProject p → IsMatrixOf (activity_count p) (arcs_of p []) rows → IsArc p (deadline p bound) → FillsRows (deadline p bound) rows
+pub fills_first : (p : Problem) (rows : Rows) (bound : ℤ) → IsProject p
+    → IsMatrixOf (activity_count p) (arcs_of p []) rows → IsArc p (deadline p bound) → FillsRows (deadline p bound) rows
 fills_first p rows bound is m lag = record {
   light = record { at_least = omega (arith, ints, lag.light.at_least); at_most = omega (arith, ints, lag.light.at_most) };
   full = full;
@@ -110,10 +126,17 @@ fills_first p rows bound is m lag = record {
         let first_weighs = there.weighs in
         let last_weighs = back.weighs in
         let least = lag.light.at_least in
-        let over_is : weight_over (deadline p bound) rows a ≡ Some (first.0 +ℤ (deadline p bound).weight) = joined-some first.0 (deadline p bound).weight (entry rows a (end_of p)) (Some (deadline p bound).weight) first.1 refl in
-        let way : joined (weight_over (deadline p bound) rows a) (entry rows 0 b) ≡ Some ((first.0 +ℤ (deadline p bound).weight) +ℤ last.0) = joined-some (first.0 +ℤ (deadline p bound).weight) last.0 (weight_over (deadline p bound) rows a) (entry rows 0 b) over_is last.1 in
+        let over_is : weight_over (deadline p bound) rows a ≡ Some (first.0 +ℤ (deadline p bound).weight) =
+        joined-some first.0 (deadline p bound).weight (entry rows a (end_of p)) (Some (deadline p bound).weight)
+        first.1 refl in
+        let way : joined (weight_over (deadline p bound) rows a) (entry rows 0 b) ≡ Some
+        ((first.0 +ℤ (deadline p bound).weight) +ℤ last.0) =
+        joined-some (first.0 +ℤ (deadline p bound).weight) last.0 (weight_over (deadline p bound) rows a)
+        (entry rows 0 b) over_is last.1 in
         rw (entry-rows_over (deadline p bound) rows a b near_a near_b)
-        (greater-more (neg_ℤ MAX_WALK_WEIGHT) (entry rows a b) (joined (weight_over (deadline p bound) rows a) (entry rows 0 b)) ((first.0 +ℤ (deadline p bound).weight) +ℤ last.0, way, omega (arith, ints)))
+        (greater-more (neg_ℤ MAX_WALK_WEIGHT) (entry rows a b)
+        (joined (weight_over (deadline p bound) rows a) (entry rows 0 b))
+        ((first.0 +ℤ (deadline p bound).weight) +ℤ last.0, way, omega (arith, ints)))
 
 -- ---- which arcs have one
 
@@ -129,13 +152,19 @@ deadline_first p bound is lag = record {
 -- ---- the root at first
 
 rules_matrix : (p : Problem) (rows : Rows) → IsMatrixOf (activity_count p) (arcs_of p []) rows → IsMatrixOf (length rows) (rules p) rows
-rules_matrix p rows m = let long : length rows ≡ activity_count p = m.square.0 in subst (λ (arcs : List Lag). IsMatrixOf (length rows) arcs rows) (append-nil (rules p)) (rw long m)
+rules_matrix p rows m = let long : length rows ≡ activity_count p = m.square.0
+    in subst (λ (arcs : List Lag). IsMatrixOf (length rows) arcs rows) (append-nil (rules p)) (rw long m)
 
-pub first_matrix : (p : Problem) (bound : ℤ) (rows new : Rows) → IsMatrixOf (activity_count p) (arcs_of p []) rows → AddsArc (deadline p bound) rows new → IsMatrixOf (activity_count p) (rules p ++ deadline p bound ∷ []) new
+pub first_matrix : (p : Problem) (bound : ℤ) (rows new : Rows) → IsMatrixOf (activity_count p) (arcs_of p []) rows
+    → AddsArc (deadline p bound) rows new → IsMatrixOf (activity_count p) (rules p ++ deadline p bound ∷ []) new
 first_matrix p bound rows new m adds = let long : length rows ≡ activity_count p = m.square.0 in rw long at (adds (rules p) (rules_matrix p rows m))
 
-pub first_full : (p : Problem) (bound : ℤ) (rows new : Rows) → IsProject p → IsMatrixOf (activity_count p) (arcs_of p []) rows → IsArc p (deadline p bound) → AddsArc (deadline p bound) rows new → IsFull new
-first_full p bound rows new is m lag adds = full_by_deadline p (rules p ++ deadline p bound ∷ []) new (deadline_first p bound is lag) (first_matrix p bound rows new m adds)
+pub first_full : (p : Problem) (bound : ℤ) (rows new : Rows) → IsProject p
+    → IsMatrixOf (activity_count p) (arcs_of p []) rows → IsArc p (deadline p bound)
+    → AddsArc (deadline p bound) rows new → IsFull new
+first_full p bound rows new is m lag adds =
+    full_by_deadline p (rules p ++ deadline p bound ∷ []) new (deadline_first p bound is lag)
+    (first_matrix p bound rows new m adds)
 
 -- where the project's own rules close a walk of positive weight, so do they with a deadline
 pub first_dead : (p : Problem) (bound : ℤ) (top : ℕ) → IsLeastCycleTop (arcs_of p []) top → HasPositiveCycle (rules p ++ deadline p bound ∷ [])
@@ -145,5 +174,6 @@ first_dead p bound top least =
     cycle_part (rules p) (rules p ++ deadline p bound ∷ []) (λ e c. Contains-append_left (rules p) (deadline p bound ∷ []) e c) cycle
 
 -- and where the deadline does
-pub deadline_dead : (p : Problem) (bound : ℤ) (rows : Rows) → IsMatrixOf (activity_count p) (arcs_of p []) rows → ClosesCycle (deadline p bound) rows → HasPositiveCycle (rules p ++ deadline p bound ∷ [])
+pub deadline_dead : (p : Problem) (bound : ℤ) (rows : Rows) → IsMatrixOf (activity_count p) (arcs_of p []) rows
+    → ClosesCycle (deadline p bound) rows → HasPositiveCycle (rules p ++ deadline p bound ∷ [])
 deadline_dead p bound rows m closes = let found = closes (rules p) (rules_matrix p rows m) in (end_of p, found.0, found.1)

@@ -1,5 +1,7 @@
 -- A ledger stays sound.
-use Rattle.std.proofs.Common.{Bool, true, false, refl, ◌≡◌, sym, ap, subst, ℕ, ◌+◌, ◌-◌, ◌<◌, arith, ℤ, pos, ◌+ℤ◌, ◌≤ℤ◌, ◌<ℤ◌, ⊎_elim, slice_set, List, [], ◌∷◌, ◌++◌, append_assoc, Option, None, Some, MatchOption}
+use Rattle.std.proofs.Common.{Bool, true, false, refl, ◌≡◌, sym, ap, subst, ℕ, ◌+◌, ◌-◌, ◌<◌, arith, ℤ, pos, ◌+ℤ◌, ◌≤ℤ◌}
+use Rattle.std.proofs.Common.{◌<ℤ◌, ⊎_elim, slice_set, List, [], ◌∷◌, ◌++◌, append_assoc, Option, None, Some}
+use Rattle.std.proofs.Common.{MatchOption}
 use Rattle.std.specs.List.{All}
 use Rattle.std.proofs.lemmas.Int.{ints, by_lt_z}
 use Rattle.std.proofs.lemmas.List.Elements.{All-append, All-head, All-nil, All-push}
@@ -13,7 +15,9 @@ use Rattle.lemma_proof.specs.declared.line.Line.{Line}
 use Rattle.lemma_proof.specs.Lines.{IsArc, IsIn, IsRefuted, MeetsNone, Slots, impossible}
 use Rattle.lemma_book.specs.declared.deadline.TheConstants.{MAX_CEILING}
 use Rattle.lemma_book.proofs.TooMuch.{too_much_out}
-use Rattle.lemma_book.specs.Ledger.{IsDraft, IsRootMatrixOf, IsSound, Leads, LedgerOf, MayLead, MayTake, asks_too_much, ceiling_of, deadline, first_roots, own_of, root_of, with_lemma, with_schedule, with_slot, without_lemma}
+use Rattle.lemma_book.specs.Ledger.{IsDraft, IsRootMatrixOf, IsSound, Leads, LedgerOf, MayLead, MayTake, asks_too_much}
+use Rattle.lemma_book.specs.Ledger.{ceiling_of, deadline, first_roots, own_of, root_of, with_lemma, with_schedule}
+use Rattle.lemma_book.specs.Ledger.{with_slot, without_lemma}
 use Rattle.lemma_book.specs.Premises.{PremisesOf, first_premises, ledger_of}
 use Rattle.lemma_book.proofs.Slotted.{in_emptied, in_shelved}
 use Rattle.lemma_proof.proofs.Truth.{none_meets_refuted}
@@ -34,9 +38,11 @@ first_met p s feasible less =
   where
     if_asked : (asks : Bool) → asks_too_much p ≡ asks → All (Meets s) (rules p ++ first_roots p)
     if_asked true asks = absurd (too_much_out p s feasible asks)
-    if_asked false asks = rw asks (All-push (Meets s) (rules p) (deadline p (pos (horizon p + 1))) feasible.schedule.rules_met (deadline_met p s (pos (horizon p + 1)) feasible less))
+    if_asked false asks = rw asks (All-push (Meets s) (rules p) (deadline p (pos (horizon p + 1)))
+        feasible.schedule.rules_met (deadline_met p s (pos (horizon p + 1)) feasible less))
 
-pub first_sound : (p : Problem) (roots : List Lag) (lemmas : Slots) → roots ≡ first_roots p → lemmas ≡ [] → IsSound (record { project = p; best = None; roots = roots; lemmas = lemmas })
+pub first_sound : (p : Problem) (roots : List Lag) (lemmas : Slots) → roots ≡ first_roots p → lemmas ≡ []
+    → IsSound (record { project = p; best = None; roots = roots; lemmas = lemmas })
 first_sound p roots lemmas roots_are lemmas_are = record {
   best = record {};
   roots = λ s feasible less. rw roots_are (first_met p s feasible less);
@@ -55,11 +61,15 @@ of_sum h = omega (arith, ints)
 abbrev pub rules_and : Problem → ℤ → List Lag
 rules_and p bound = rules p ++ deadline p bound ∷ []
 
-pub root_from : (p : Problem) (own : List Lag) (bench : Option BenchOf) → MatchOption bench (HasPositiveCycle own) (λ b. IsMatrixOf (activity_count p) own b.rows) → IsRootMatrixOf p own bench
+pub root_from : (p : Problem) (own : List Lag) (bench : Option BenchOf)
+    → MatchOption bench (HasPositiveCycle own) (λ b. IsMatrixOf (activity_count p) own b.rows)
+    → IsRootMatrixOf p own bench
 root_from p own None found = found
 root_from p own (Some b) found = found
 
-pub first_root_is : (p : Problem) (bound : ℤ) (bench : Option BenchOf) → bound ≡ pos (horizon p + 1) → asks_too_much p ≡ false → IsRootMatrixOf p (rules_and p bound) bench → IsRootMatrixOf p (rules p ++ first_roots p) bench
+pub first_root_is : (p : Problem) (bound : ℤ) (bench : Option BenchOf) → bound ≡ pos (horizon p + 1)
+    → asks_too_much p ≡ false → IsRootMatrixOf p (rules_and p bound) bench
+    → IsRootMatrixOf p (rules p ++ first_roots p) bench
 first_root_is p bound bench is asks root = rw asks (subst (λ (b : ℤ). IsRootMatrixOf p (rules_and p b) bench) is root)
 
 -- ---- an arc more in the root
@@ -70,7 +80,8 @@ with_root l arc = record l { roots = l.roots ++ arc ∷ [] }
 pub own_more : (l : LedgerOf) (arc : Lag) → own_of l ++ arc ∷ [] ≡ own_of (with_root l arc)
 own_more l arc = append_assoc (rules l.project) l.roots (arc ∷ [])
 
-pub with_root_sound : (l : LedgerOf) (arc : Lag) → IsSound l → ((s : List ℤ) → IsFeasible l.project s → makespan s <ℤ ceiling_of l → Meets s arc) → IsSound (with_root l arc)
+pub with_root_sound : (l : LedgerOf) (arc : Lag) → IsSound l
+    → ((s : List ℤ) → IsFeasible l.project s → makespan s <ℤ ceiling_of l → Meets s arc) → IsSound (with_root l arc)
 with_root_sound l arc sound met = record {
   best = sound.best;
   roots = λ s feasible less. subst (All (Meets s)) (own_more l arc) (All-push (Meets s) (own_of l) arc (sound.roots s feasible less) (met s feasible less));
@@ -80,12 +91,17 @@ with_root_sound l arc sound met = record {
 -- ---- refuted arcs
 
 -- no feasible schedule in question meets all arcs that are refuted
-pub refuted_out : (l : LedgerOf) (arcs : List Lag) (lines : List Line) → IsSound l → IsRefuted l.project l.lemmas (own_of l) arcs lines → (s : List ℤ) → IsFeasible l.project s → makespan s <ℤ ceiling_of l → ¬ All (Meets s) arcs
+pub refuted_out : (l : LedgerOf) (arcs : List Lag) (lines : List Line) → IsSound l
+    → IsRefuted l.project l.lemmas (own_of l) arcs lines → (s : List ℤ) → IsFeasible l.project s
+    → makespan s <ℤ ceiling_of l → ¬ All (Meets s) arcs
 refuted_out l arcs lines sound refuted s feasible less met =
-    none_meets_refuted l.project l.lemmas (own_of l ++ arcs) lines refuted.refuted s feasible (sound.lemmas s feasible less) (All-append (Meets s) (own_of l) arcs (sound.roots s feasible less) met)
+    none_meets_refuted l.project l.lemmas (own_of l ++ arcs) lines refuted.refuted s feasible
+    (sound.lemmas s feasible less) (All-append (Meets s) (own_of l) arcs (sound.roots s feasible less) met)
 
 -- so it meets the root's arc that the lemma makes
-pub root_met : (l : LedgerOf) (arcs : List Lag) (lines : List Line) (arc : Lag) → IsSound l → IsRefuted l.project l.lemmas (own_of l) arcs lines → root_of arcs ≡ Some arc → (s : List ℤ) → IsFeasible l.project s → makespan s <ℤ ceiling_of l → Meets s arc
+pub root_met : (l : LedgerOf) (arcs : List Lag) (lines : List Line) (arc : Lag) → IsSound l
+    → IsRefuted l.project l.lemmas (own_of l) arcs lines → root_of arcs ≡ Some arc → (s : List ℤ)
+    → IsFeasible l.project s → makespan s <ℤ ceiling_of l → Meets s arc
 root_met l [] lines arc is refuted root s feasible less = absurd (refuted_out l [] lines is refuted s feasible less (All-nil (Meets s)))
 root_met l (e ∷ []) lines arc is refuted root s feasible less =
     let same : reverse_of e ≡ arc = same_arc (reverse_of e) arc root in
@@ -97,12 +113,20 @@ root_met l (e ∷ []) lines arc is refuted root s feasible less =
     same_arc x y e = cc
 root_met l (e ∷ f ∷ arcs) lines arc is refuted root s feasible less = absurd (let bad : None ≡ Some arc = root in cc)
 
-pub light_root : (p : Problem) (arcs : List Lag) (arc : Lag) → 0 < activity_count p → All (IsArc p) arcs → root_of arcs ≡ Some arc → IsLight (activity_count p) arc
-light_root p [] arc some are root = let same : impossible ≡ arc = same_arc impossible arc root in rw (sym same) (record { from_activity = some; to_activity = some; light = record { at_least = omega (arith, ints); at_most = omega (arith, ints) } })
+pub light_root : (p : Problem) (arcs : List Lag) (arc : Lag) → 0 < activity_count p → All (IsArc p) arcs
+    → root_of arcs ≡ Some arc → IsLight (activity_count p) arc
+light_root p [] arc some are root = let same : impossible ≡ arc = same_arc impossible arc root
+    in rw (sym same) (record {
+      from_activity = some;
+      to_activity = some;
+      light =
+          record { at_least = omega (arith, ints); at_most = omega (arith, ints) };
+    })
   where
     same_arc : (x y : Lag) → Some x ≡ Some y → x ≡ y
     same_arc x y e = cc
-light_root p (e ∷ []) arc some are root = let same : reverse_of e ≡ arc = same_arc (reverse_of e) arc root in rw (sym same) (light_reverse p e (All-head (IsArc p) e [] are))
+light_root p (e ∷ []) arc some are root = let same : reverse_of e ≡ arc = same_arc (reverse_of e) arc root
+    in rw (sym same) (light_reverse p e (All-head (IsArc p) e [] are))
   where
     same_arc : (x y : Lag) → Some x ≡ Some y → x ≡ y
     same_arc x y e = cc
@@ -113,7 +137,8 @@ light_root p (e ∷ f ∷ arcs) arc some are root = absurd (let bad : None ≡ S
 abbrev pub shelved : LedgerOf → ℕ → List Lag → LedgerOf
 shelved l slot arcs = record l { lemmas = slice_set (with_slot l.lemmas slot) slot (Some arcs) }
 
-pub shelved_sound : (l : LedgerOf) (slot : ℕ) (arcs : List Lag) (lines : List Line) → IsSound l → IsRefuted l.project l.lemmas (own_of l) arcs lines → IsSound (shelved l slot arcs)
+pub shelved_sound : (l : LedgerOf) (slot : ℕ) (arcs : List Lag) (lines : List Line) → IsSound l
+    → IsRefuted l.project l.lemmas (own_of l) arcs lines → IsSound (shelved l slot arcs)
 shelved_sound l slot arcs lines sound refuted = record {
   best = sound.best;
   roots = sound.roots;

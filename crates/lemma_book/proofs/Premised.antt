@@ -22,7 +22,9 @@ use Rattle.lemma_book.specs.Ledger.{IsRootMatrixOf, first_roots, with_slot}
 use Rattle.lemma_book.specs.Premises.{ArePremises, Covers, PremisesOf, premises_of, root_arcs, with_roots}
 use Rattle.lemma_book.proofs.Slotted.{in_emptied, in_shelved}
 
-pub first_are : (p : Problem) (roots : List Lag) (lemmas : Slots) (bench : Option BenchOf) → roots ≡ first_roots p → lemmas ≡ [] → All (IsLight (activity_count p)) roots → IsRootMatrixOf p (rules p ++ first_roots p) bench → ArePremises (premises_of p roots lemmas) bench
+pub first_are : (p : Problem) (roots : List Lag) (lemmas : Slots) (bench : Option BenchOf) → roots ≡ first_roots p
+    → lemmas ≡ [] → All (IsLight (activity_count p)) roots → IsRootMatrixOf p (rules p ++ first_roots p) bench
+    → ArePremises (premises_of p roots lemmas) bench
 first_are p roots lemmas bench roots_are lemmas_are light root = record {
   lemmas = rw lemmas_are (λ slot lemma found. absurd (nothing slot lemma found));
   light = light;
@@ -34,7 +36,9 @@ first_are p roots lemmas bench roots_are lemmas_are light root = record {
 
 -- ---- an arc more in the root
 
-pub with_root_are : (x : PremisesOf) (bench new : Option BenchOf) (arc : Lag) → ArePremises x bench → IsLight (activity_count x.project) arc → IsRootMatrixOf x.project (root_arcs x ++ arc ∷ []) new → ArePremises (with_roots x (arc ∷ [])) new
+pub with_root_are : (x : PremisesOf) (bench new : Option BenchOf) (arc : Lag) → ArePremises x bench
+    → IsLight (activity_count x.project) arc → IsRootMatrixOf x.project (root_arcs x ++ arc ∷ []) new
+    → ArePremises (with_roots x (arc ∷ [])) new
 with_root_are x bench new arc are light root = record {
   lemmas = are.lemmas;
   light = All-push (IsLight (activity_count x.project)) x.roots arc are.light light;
@@ -47,7 +51,9 @@ root_none own more cycle = cycle_part own (own ++ more) (λ e c. Contains-append
 
 -- ---- lemmas
 
-pub shelved_are : (x : PremisesOf) (bench : Option BenchOf) (slot : ℕ) (arcs : List Lag) → ArePremises x bench → All (IsArc x.project) arcs → ArePremises (record x { lemmas = slice_set (with_slot x.lemmas slot) slot (Some arcs) }) bench
+pub shelved_are : (x : PremisesOf) (bench : Option BenchOf) (slot : ℕ) (arcs : List Lag) → ArePremises x bench
+    → All (IsArc x.project) arcs → ArePremises
+    (record x { lemmas = slice_set (with_slot x.lemmas slot) slot (Some arcs) }) bench
 shelved_are x bench slot arcs are new_are = record {
   lemmas = λ k lemma found.
       ⊎_elim
@@ -58,7 +64,8 @@ shelved_are x bench slot arcs are new_are = record {
   root = are.root;
 }
 
-pub emptied_are : (x : PremisesOf) (bench : Option BenchOf) (slot : ℕ) → ArePremises x bench → ArePremises (record x { lemmas = slice_set x.lemmas slot None }) bench
+pub emptied_are : (x : PremisesOf) (bench : Option BenchOf) (slot : ℕ) → ArePremises x bench
+    → ArePremises (record x { lemmas = slice_set x.lemmas slot None }) bench
 emptied_are x bench slot are = record {
   lemmas = λ k lemma found. are.lemmas k lemma (in_emptied x.lemmas slot k lemma found);
   light = are.light;
@@ -68,7 +75,8 @@ emptied_are x bench slot are = record {
 -- ---- refuted arcs
 
 -- once the root's arcs close a walk of positive weight, all arcs are refuted
-pub ended_refutes : (x : PremisesOf) (arcs : List Lag) (lines : List Line) → All (IsArc x.project) arcs → HasPositiveCycle (root_arcs x) → IsRefuted x.project x.lemmas (root_arcs x) arcs lines
+pub ended_refutes : (x : PremisesOf) (arcs : List Lag) (lines : List Line) → All (IsArc x.project) arcs
+    → HasPositiveCycle (root_arcs x) → IsRefuted x.project x.lemmas (root_arcs x) arcs lines
 ended_refutes x arcs lines are cycle = record {
   are_arcs = are;
   refuted = cycle_refutes x.project x.lemmas (root_arcs x ++ arcs) lines (root_none (root_arcs x) arcs cycle);
@@ -89,10 +97,14 @@ given rules roots rest arcs e c =
     (Contains-append_cases (rules ++ roots) arcs e c))
 
 -- what lines refute beside some premises, they refute beside those that cover them
-pub covered_refuted : (x other : PremisesOf) (arcs : List Lag) (lines : List Line) → Covers x other lines → IsRefuted other.project other.lemmas (root_arcs other) arcs lines → IsRefuted x.project x.lemmas (root_arcs x) arcs lines
+pub covered_refuted : (x other : PremisesOf) (arcs : List Lag) (lines : List Line) → Covers x other lines
+    → IsRefuted other.project other.lemmas (root_arcs other) arcs lines
+    → IsRefuted x.project x.lemmas (root_arcs x) arcs lines
 covered_refuted x other arcs lines covers is = rw (covers.ahead.project, covers.ahead.roots.1) (record {
   are_arcs = is.are_arcs;
-  refuted = refuted_given other.project other.lemmas x.lemmas (root_arcs other ++ arcs) ((rules other.project ++ (other.roots ++ covers.ahead.roots.0)) ++ arcs) lines covers.lemmas (given (rules other.project) other.roots covers.ahead.roots.0 arcs) is.refuted;
+  refuted = refuted_given other.project other.lemmas x.lemmas (root_arcs other ++ arcs)
+      ((rules other.project ++ (other.roots ++ covers.ahead.roots.0)) ++ arcs) lines covers.lemmas
+      (given (rules other.project) other.roots covers.ahead.roots.0 arcs) is.refuted;
 })
 
 -- ---- arcs that are the same

@@ -1,5 +1,7 @@
 -- Which lemmas are in slots that were made, filled and emptied.
-use Rattle.std.proofs.Common.{◌≡◌, ◌≢◌, sym, ap, ◌∙◌, subst, ℕ, zero, suc, ◌<◌, ◌≤◌, ◌+◌, ◌-◌, arith, ⊎_elim, ◌⊎◌, inl, inr, List, [], ◌∷◌, ◌++◌, length, replicate, get_or, set, Option, None, Some, slice_set, append_assoc}
+use Rattle.std.proofs.Common.{◌≡◌, ◌≢◌, sym, ap, ◌∙◌, subst, ℕ, zero, suc, ◌<◌, ◌≤◌, ◌+◌, ◌-◌, arith, ⊎_elim, ◌⊎◌, inl}
+use Rattle.std.proofs.Common.{inr, List, [], ◌∷◌, ◌++◌, length, replicate, get_or, set, Option, None, Some, slice_set}
+use Rattle.std.proofs.Common.{append_assoc}
 use Rattle.std.proofs.lemmas.Bool.{cases_eq}
 use Rattle.std.proofs.lemmas.List.{get_or-replicate, get_or-set_other, get_or-set_same, length-replicate, length-set, replicate-append-replicate}
 use Rattle.std.proofs.lemmas.Option.{get_or_from_slice_get, slice_get-get_or, slice_get_within}
@@ -27,7 +29,8 @@ pub in_with_slot : (lemmas : Slots) (slot k : ℕ) (lemma : List Lag) → IsIn (
 in_with_slot lemmas slot k lemma found = in_more lemmas (slot + 1 - length lemmas) k lemma found
 
 -- a lemma that is in a list of which one slot was set is in that slot, or was there
-pub in_set : (lemmas : Slots) (slot k : ℕ) (x : Option (List Lag)) (lemma : List Lag) → IsIn (slice_set lemmas slot x) k lemma → (x ≡ Some lemma) ⊎ IsIn lemmas k lemma
+pub in_set : (lemmas : Slots) (slot k : ℕ) (x : Option (List Lag)) (lemma : List Lag)
+    → IsIn (slice_set lemmas slot x) k lemma → (x ≡ Some lemma) ⊎ IsIn lemmas k lemma
 in_set lemmas slot k x lemma found =
     let lt : k < length (set lemmas slot x) = slice_get_within (set lemmas slot x) k (Some lemma) found in
     let is : get_or (set lemmas slot x) k None ≡ Some lemma = get_or_from_slice_get (set lemmas slot x) k (Some lemma) None found in
@@ -51,11 +54,14 @@ push_none n = replicate-append-replicate n 1 None
 pub made_more : (old : Slots) (count i : ℕ) → count ≤ i → (old ++ replicate (i - count) None) ++ None ∷ [] ≡ old ++ replicate (i + 1 - count) None
 made_more old count i le =
     let one : i + 1 - count ≡ (i - count) + 1 = omega (arith, le) in
-    append_assoc old (replicate (i - count) None) (None ∷ []) ∙ ap (λ (rest : Slots). old ++ rest) (push_none (i - count) ∙ ap (λ (n : ℕ). replicate {A = Option (List Lag)} n None) (sym one))
+    append_assoc old (replicate (i - count) None) (None ∷ [])
+    ∙ ap (λ (rest : Slots). old ++ rest) (push_none (i - count)
+    ∙ ap (λ (n : ℕ). replicate {A = Option (List Lag)} n None) (sym one))
 
 -- ---- a lemma more in a slot, and one that goes
 
-pub in_shelved : (lemmas : Slots) (slot k : ℕ) (arcs lemma : List Lag) → IsIn (slice_set (with_slot lemmas slot) slot (Some arcs)) k lemma → (arcs ≡ lemma) ⊎ IsIn lemmas k lemma
+pub in_shelved : (lemmas : Slots) (slot k : ℕ) (arcs lemma : List Lag)
+    → IsIn (slice_set (with_slot lemmas slot) slot (Some arcs)) k lemma → (arcs ≡ lemma) ⊎ IsIn lemmas k lemma
 in_shelved lemmas slot k arcs lemma found =
     ⊎_elim
     (λ (new : Some arcs ≡ Some lemma). inl (same arcs lemma new))
@@ -66,7 +72,8 @@ in_shelved lemmas slot k arcs lemma found =
     same x y e = cc
 
 pub in_emptied : (lemmas : Slots) (slot k : ℕ) (lemma : List Lag) → IsIn (slice_set lemmas slot None) k lemma → IsIn lemmas k lemma
-in_emptied lemmas slot k lemma found = ⊎_elim (λ (none : None ≡ Some lemma). absurd (cc)) (λ (old : IsIn lemmas k lemma). old) (in_set lemmas slot k None lemma found)
+in_emptied lemmas slot k lemma found = ⊎_elim (λ (none : None ≡ Some lemma). absurd (cc))
+    (λ (old : IsIn lemmas k lemma). old) (in_set lemmas slot k None lemma found)
 
 -- the lemmas of other slots stay
 set_other : (lemmas : Slots) (slot k : ℕ) (x : Option (List Lag)) (lemma : List Lag) → k ≢ slot → IsIn lemmas k lemma → IsIn (slice_set lemmas slot x) k lemma
@@ -82,7 +89,8 @@ more_in (x ∷ lemmas) n zero lemma found = found
 more_in (x ∷ lemmas) n (suc k) lemma found = more_in lemmas n k lemma found
 
 -- what is shelved in an empty slot takes no other lemma's
-pub shelved_there : (lemmas : Slots) (slot k : ℕ) (arcs lemma : List Lag) → ¬ IsFilled lemmas slot → IsIn lemmas k lemma → IsIn (slice_set (with_slot lemmas slot) slot (Some arcs)) k lemma
+pub shelved_there : (lemmas : Slots) (slot k : ℕ) (arcs lemma : List Lag) → ¬ IsFilled lemmas slot → IsIn lemmas k lemma
+    → IsIn (slice_set (with_slot lemmas slot) slot (Some arcs)) k lemma
 shelved_there lemmas slot k arcs lemma free found =
     set_other (with_slot lemmas slot) slot k (Some arcs) lemma
     (λ same. free (lemma, subst (λ (i : ℕ). IsIn lemmas i lemma) same found))

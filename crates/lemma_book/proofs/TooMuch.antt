@@ -1,5 +1,6 @@
 -- Where an activity alone asks for too much there is no schedule.
-use Rattle.std.proofs.Common.{ℕ, ◌<◌, ◌+◌, List, [], ◌∷◌, ◌++◌, get_or, arith, ℤ, pos, ◌+ℤ◌, ◌<ℤ◌, ◌≤ℤ◌, ◌≡◌, refl, Bool, true, false, ◌&&◌, int_lt, nat_lt, length, slice_index_or}
+use Rattle.std.proofs.Common.{ℕ, ◌<◌, ◌+◌, List, [], ◌∷◌, ◌++◌, get_or, arith, ℤ, pos, ◌+ℤ◌, ◌<ℤ◌, ◌≤ℤ◌, ◌≡◌, refl}
+use Rattle.std.proofs.Common.{Bool, true, false, ◌&&◌, int_lt, nat_lt, length, slice_index_or}
 use Rattle.std.specs.List.{All, Any, Contains, range_with_len}
 use Rattle.std.proofs.lemmas.Bool.{ltb-true}
 use Rattle.std.proofs.lemmas.Int.{ints}
@@ -18,9 +19,12 @@ use Rattle.lemma_proof.specs.Lines.{impossible}
 use Rattle.lemma_book.specs.Ledger.{asks_too_much, deadline, exceeds, exceeds_some, first_roots}
 
 -- an activity that takes time and asks for more than there is can't run
-too_much_of : (p : Problem) (s : List ℤ) (i k : ℕ) → IsFeasible p s → i < activity_count p → k < resource_count p → pos 0 <ℤ duration p i → capacity p k < demand p k i → ⊥
+too_much_of : (p : Problem) (s : List ℤ) (i k : ℕ) → IsFeasible p s → i < activity_count p → k < resource_count p
+    → pos 0 <ℤ duration p i → capacity p k < demand p k i → ⊥
 too_much_of p s i k feasible named in_range long more =
-    not_all_run p s k (i ∷ []) (start s i) feasible in_range (λ j l. absurd (omega arith)) (one (λ j. j < activity_count p) named) (omega arith) (one (λ j. start s j ≤ℤ start s i) (omega (arith, ints))) (one (λ j. start s i <ℤ (start s j +ℤ duration p j)) (omega (arith, ints)))
+    not_all_run p s k (i ∷ []) (start s i) feasible in_range (λ j l. absurd (omega arith))
+    (one (λ j. j < activity_count p) named) (omega arith) (one (λ j. start s j ≤ℤ start s i) (omega (arith, ints)))
+    (one (λ j. start s i <ℤ (start s j +ℤ duration p j)) (omega (arith, ints)))
   where
     one : (P : ℕ → Type 0) → P i → All P (i ∷ [])
     one P here = All-cons P i [] here (All-nil P)

@@ -1,14 +1,17 @@
 -- What is proved of a project: the best schedule, arcs of the root, and lemmas.
-use Rattle.std.specs.Prelude.{Bool, true, false, Vec, ◌&&◌, if◌then◌else◌, int_lt, nat_lt, ◌≡◌, ◌≢◌, ◌+◌, ◌<◌, ◌-◌, ◌<ℤ◌, ◌-ℤ◌, ◌++◌, ◌∷◌, [], ℕ, ℤ, pos, List, length, replicate, slice_set, Option, None, Some, IfSome}
+use Rattle.std.specs.Prelude.{Bool, true, false, Vec, ◌&&◌, if◌then◌else◌, int_lt, nat_lt, ◌≡◌, ◌≢◌, ◌+◌, ◌<◌, ◌-◌}
+use Rattle.std.specs.Prelude.{◌<ℤ◌, ◌-ℤ◌, ◌++◌, ◌∷◌, [], ℕ, ℤ, pos, List, length, replicate, slice_set, Option, None}
+use Rattle.std.specs.Prelude.{Some, IfSome}
 use Rattle.std.specs.Int.{int_min}
 use Rattle.std.specs.List.{All, list_any, range_with_len}
 use Rattle.network.specs.declared.parts.Lag.{Lag}
-use Rattle.network.specs.Problem.{AreStarts, IsBetween, IsWithin, Problem, activities, activity_count, capacity, demand, duration, end_of, resource_count, rules}
+use Rattle.network.specs.Problem.{AreStarts, IsBetween, IsWithin, Problem, activities, activity_count, capacity, demand}
+use Rattle.network.specs.Problem.{duration, end_of, resource_count, rules}
 use Rattle.network.specs.declared.limits.TheConstants.{MAX_WALK_WEIGHT}
 use Rattle.network.specs.Walk.{HasNoPositiveCycle, HasPositiveCycle, IsGreatestWeight, IsMatrixOf}
 use Rattle.network.specs.Schedule.{IsFeasible, Meets, makespan}
-use Rattle.record_text.specs.declared.proved.Proved.{Proved}
-use Rattle.record_text.specs.declared.proved.Proved.TheVariants as proved
+use Rattle.network.specs.declared.verdict.Verdict.{Verdict}
+use Rattle.network.specs.declared.verdict.Verdict.TheVariants as verdict
 use Rattle.network.specs.Horizon.{horizon}
 use Rattle.longest_path.specs.Insert.{arc_of}
 use Rattle.lemma_proof.specs.Reasons.{reverse_of}
@@ -168,13 +171,13 @@ pub record IsBoundOf (l : LedgerOf) (bound : ℤ) : Type 0 where
       (least : ℤ) × IsGreatestWeight (own_of l) 0 (end_of l.project) (Some least) × (bound ≡ int_min least (ceiling_of l))
 
 -- the best schedule is optimal, or there is none, once the root's arcs close a walk of positive weight
-abbrev pub Claims : LedgerOf → Proved → Type 0
-Claims l (proved.Optimal makespan) = HasPositiveCycle (own_of l) × (l.best ≢ None) × (makespan ≡ ceiling_of l)
-Claims l (proved.Bound bound) = HasNoPositiveCycle (own_of l) × IsBoundOf l bound
-Claims l proved.NoSchedule = HasPositiveCycle (own_of l) × (l.best ≡ None)
+abbrev pub Claims : LedgerOf → Verdict → Type 0
+Claims l (verdict.Optimal makespan) = HasPositiveCycle (own_of l) × (l.best ≢ None) × (makespan ≡ ceiling_of l)
+Claims l (verdict.Bound bound) = HasNoPositiveCycle (own_of l) × IsBoundOf l bound
+Claims l verdict.NoSchedule = HasPositiveCycle (own_of l) × (l.best ≡ None)
 
 -- no number of a claim is greater
-abbrev pub IsSmall : Proved → Type 0
-IsSmall (proved.Optimal makespan) = IsWithin MAX_WALK_WEIGHT makespan
-IsSmall (proved.Bound bound) = IsWithin MAX_WALK_WEIGHT bound
-IsSmall proved.NoSchedule = Unit {0}
+abbrev pub IsSmall : Verdict → Type 0
+IsSmall (verdict.Optimal makespan) = IsWithin MAX_WALK_WEIGHT makespan
+IsSmall (verdict.Bound bound) = IsWithin MAX_WALK_WEIGHT bound
+IsSmall verdict.NoSchedule = Unit {0}

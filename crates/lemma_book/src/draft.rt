@@ -14,8 +14,8 @@ use crate::deadline::{MAX_CEILING, deadline};
 use crate::leading::{are_starts, is_feasible};
 use crate::premises::Premises;
 use lemma_proof::{IMPOSSIBLE, Lags, Line, are_arcs, reverse_of};
-use network::{Lag, Project, horizon_of};
-use record_text::{Proved, Starts};
+use network::{Lag, Project, Verdict, horizon_of};
+use record_text::Starts;
 use std::alloc::{AllocError, Global};
 use std::marker::Model;
 
@@ -202,20 +202,20 @@ impl<'a> Draft<'a> {
     }
 
     /// What is claimed now.
-    pub fn claim(&self) -> Proved
+    pub fn claim(&self) -> Verdict
         ensures claims { Claims self.now result }
         ensures small { IsSmall result }
     {
         if self.premises.least_end().is_some() {
-            return Proved::Bound {
+            return Verdict::Bound {
                 bound: self.bound(),
             };
         }
         if self.best.is_some() {
-            return Proved::Optimal {
+            return Verdict::Optimal {
                 makespan: self.ceiling(),
             };
         }
-        Proved::NoSchedule
+        Verdict::NoSchedule
     }
 }

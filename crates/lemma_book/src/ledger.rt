@@ -4,8 +4,7 @@ ghost use Rattle.std.specs.Prelude.{◌≡◌, ◌↔◌, pos, Some, List, None,
 ghost use Rattle.network.specs.Problem.{IsBetween, IsWithin};
 ghost use Rattle.lemma_book.specs.declared.deadline.TheConstants.{MAX_CEILING};
 ghost use Rattle.network.specs.declared.limits.TheConstants.{MAX_WALK_WEIGHT};
-ghost use Rattle.network.specs.Schedule.{IsFeasible, IsLowerBound};
-ghost use Rattle.record_text.specs.FirstWrong.{IsFactOf};
+ghost use Rattle.network.specs.Schedule.{IsFeasible, IsLowerBound, IsTrueVerdict};
 ghost use Rattle.lemma_proof.specs.declared.line.Line.{Line};
 ghost use Rattle.lemma_proof.specs.Lines.{IsIn, picked};
 ghost use Rattle.lemma_book.specs.Ledger.{Claims, IsBoundOf, IsFilled, IsSmall, Leads, LetsGo, MayTake, Takes, ceiling_of, first_ledger, with_lemma};
@@ -14,8 +13,8 @@ ghost use Rattle.lemma_book.specs.Premises.{premises_in};
 use crate::draft::Draft;
 use crate::premises::Premises;
 use lemma_proof::{Lags, Line};
-use network::{Lag, Project};
-use record_text::{Proved, Starts};
+use network::{Lag, Project, Verdict};
+use record_text::Starts;
 use std::alloc::{AllocError, Global};
 use std::marker::Model;
 
@@ -169,9 +168,9 @@ impl<'a> Ledger<'a> {
     }
 
     /// What is proved now. It is true of the project.
-    pub fn claim(&self) -> Proved
+    pub fn claim(&self) -> Verdict
         ensures claims { Claims self.now result }
-        ensures law { IsFactOf self.now.project result }
+        ensures law { IsTrueVerdict self.now.project result }
         ensures small { IsSmall result }
     {
         prove!(self.draft.project().activity_count() >= 2);

@@ -1,5 +1,6 @@
 -- Numbers as bytes are read back.
-use Rattle.std.proofs.Common.{◌≡◌, ℕ, zero, suc, ◌+◌, ◌-◌, ◌*◌, ◌/◌, ◌%◌, ◌^◌, ◌<◌, ◌≤◌, List, [], ◌∷◌, ◌++◌, Ok, Err, inl, inr, ◌⊎◌, refl, sym, ap, ◌∙◌, append_assoc, arith}
+use Rattle.std.proofs.Common.{◌≡◌, ℕ, zero, suc, ◌+◌, ◌-◌, ◌*◌, ◌/◌, ◌%◌, ◌^◌, ◌<◌, ◌≤◌, List, [], ◌∷◌, ◌++◌, Ok, Err}
+use Rattle.std.proofs.Common.{inl, inr, ◌⊎◌, refl, sym, ap, ◌∙◌, append_assoc, arith}
 use Rattle.std.proofs.lemmas.Bool.{cases_lt, lt-ltb, le-ltb}
 use Rattle.std.proofs.Math.Nat.{pow-suc, one-le-pow, pow-le-pow_right, div-add-mod, div-lt_iff_lt-mul}
 use Rattle.lemma_log.specs.declared.fault.DecodeFault.TheVariants.{Short, Form}
@@ -69,7 +70,8 @@ enough_by : (m n : ℕ) → n < 128 ^ suc m → (n < 128) ⊎ (128 ≤ n) → di
 enough_by m n h (inl low) = text_low (suc m) n low ∙ sym (text_low m n low)
 enough_by zero n h (inr high) = absurd (omega arith)
 enough_by (suc m) n h (inr high) =
-    text_high (suc (suc m)) n high ∙ ap (λ (t : List ℕ). (n % 128 + 128) ∷ t) (enough_by m (n / 128) (less (suc m) n h) (cases_lt (n / 128) 128)) ∙ sym (text_high (suc m) n high)
+    text_high (suc (suc m)) n high ∙ ap (λ (t : List ℕ). (n % 128 + 128) ∷ t)
+    (enough_by m (n / 128) (less (suc m) n h) (cases_lt (n / 128) 128)) ∙ sym (text_high (suc m) n high)
 
 -- a number that has few digits has the same ones where more are allowed
 pub text_enough : (most n : ℕ) → n < 128 ^ suc most → digits_text (suc (suc most)) n ≡ digits_text (suc most) n
@@ -78,14 +80,17 @@ text_enough most n h = enough_by most n h (cases_lt n 128)
 again_low : (text most n : ℕ) (rest : List ℕ) → n < 128 → digits_in (suc most) (digits_text (suc text) n ++ rest) ≡ Ok (record { value = n; left = rest })
 again_low text most n rest low = rw (text_low text n low) (read_low most n rest low)
 
-again_by : (text most n : ℕ) (rest : List ℕ) → n < 128 ^ suc text → n < 128 ^ suc most → (n < 128) ⊎ (128 ≤ n) → digits_in (suc most) (digits_text (suc text) n ++ rest) ≡ Ok (record { value = n; left = rest })
+again_by : (text most n : ℕ) (rest : List ℕ) → n < 128 ^ suc text → n < 128 ^ suc most → (n < 128) ⊎ (128 ≤ n)
+    → digits_in (suc most) (digits_text (suc text) n ++ rest) ≡ Ok (record { value = n; left = rest })
 again_by text most n rest h k (inl low) = again_low text most n rest low
 again_by zero most n rest h k (inr high) = absurd (omega arith)
 again_by (suc text) zero n rest h k (inr high) = absurd (omega arith)
 again_by (suc text) (suc most) n rest h k (inr high) =
     let digit : n % 128 + 128 - 128 + 128 * (n / 128) ≡ n = omega (arith, div-add-mod n 128) in
     let more = again_by text most (n / 128) rest (less (suc text) n h) (less (suc most) n k) (cases_lt (n / 128) 128) in
-    rw (text_high (suc text) n high) (read_high (suc most) (n % 128 + 128) (digits_text (suc text) (n / 128) ++ rest) (omega arith) ∙ ap (with_digit (n % 128 + 128 - 128)) more ∙ ap (λ (v : ℕ). Ok (record { value = v; left = rest })) digit)
+    rw (text_high (suc text) n high) (read_high (suc most) (n % 128 + 128) (digits_text (suc text) (n / 128) ++ rest)
+    (omega arith) ∙ ap (with_digit (n % 128 + 128 - 128)) more
+    ∙ ap (λ (v : ℕ). Ok (record { value = v; left = rest })) digit)
 
 -- ---- what the writer writes
 
@@ -101,7 +106,8 @@ number_more n high fits =
 pub ruleset writing = (number_last, number_more)
 
 -- a digit written, and the others still to be
-pub more_written : (done text : List ℕ) (n : ℕ) → 128 ≤ n → n < 2 ^ 128 → done ++ number_text n ≡ text → (done ++ (n % 128 + 128) ∷ []) ++ number_text (n / 128) ≡ text
+pub more_written : (done text : List ℕ) (n : ℕ) → 128 ≤ n → n < 2 ^ 128 → done ++ number_text n ≡ text
+    → (done ++ (n % 128 + 128) ∷ []) ++ number_text (n / 128) ≡ text
 more_written done text n high fits h =
     append_assoc done ((n % 128 + 128) ∷ []) (number_text (n / 128)) ∙ ap (λ (t : List ℕ). done ++ t) (sym (number_more n high fits)) ∙ h
 

@@ -1,5 +1,6 @@
 -- Events are read back.
-use Rattle.std.proofs.Common.{◌≡◌, ◌≤◌, ◌<◌, ℕ, suc, ◌+◌, ◌*◌, ◌/◌, ◌%◌, ◌^◌, ℤ, List, [], ◌++◌, length, false, Some, option_map, Ok, refl, sym, ap, ◌∙◌, append_assoc, arith}
+use Rattle.std.proofs.Common.{◌≡◌, ◌≤◌, ◌<◌, ℕ, suc, ◌+◌, ◌*◌, ◌/◌, ◌%◌, ◌^◌, ℤ, List, [], ◌++◌, length, false, Some}
+use Rattle.std.proofs.Common.{option_map, Ok, refl, sym, ap, ◌∙◌, append_assoc, arith}
 use Rattle.std.specs.List.{flat_map, AllByRecursion}
 use Rattle.std.proofs.lemmas.List.{append-nil, length-append}
 use Rattle.std.proofs.lemmas.Bool.{le-ltb}
@@ -9,11 +10,13 @@ use Rattle.network.specs.declared.parts.Lag.{Lag}
 use Rattle.lemma_proof.specs.declared.line.Line.{Line}
 use Rattle.lemma_log.specs.declared.event.Event.{Event}
 use Rattle.lemma_log.specs.declared.event.Event.TheVariants as event
-use Rattle.lemma_log.specs.declared.event.Claim.{Claim}
-use Rattle.lemma_log.specs.declared.event.Claim.TheVariants as claim
+use Rattle.network.specs.declared.verdict.Verdict.{Verdict}
+use Rattle.network.specs.declared.verdict.Verdict.TheVariants as verdict
 use Rattle.lemma_log.specs.Numbers.{digits_in, number_text, signed_text}
-use Rattle.lemma_log.specs.Text.{arc_text, line_text, claim_text, body_text, event_text, IsIndex, IsAmount, IsWritableArc, IsWritableClaim, IsWritableBody, IsWritable}
-use Rattle.lemma_log.specs.Reading.{then_read, many_in, signed_in, arc_in, last, lemma_lines, event_of, event_in, is_long, is_long_at, whole_in, known, cut, frame_in, with_left, framed, read_in}
+use Rattle.lemma_log.specs.Text.{arc_text, line_text, claim_text, body_text, event_text, IsIndex, IsAmount}
+use Rattle.lemma_log.specs.Text.{IsWritableArc, IsWritableClaim, IsWritableBody, IsWritable}
+use Rattle.lemma_log.specs.Reading.{then_read, many_in, signed_in, arc_in, last, lemma_lines, event_of, event_in}
+use Rattle.lemma_log.specs.Reading.{is_long, is_long_at, whole_in, known, cut, frame_in, with_left, framed, read_in}
 use Rattle.lemma_log.proofs.Digits.{number_again}
 use Rattle.lemma_log.proofs.PartsBack.{number_back, opened, amount_back, many_back, lag_back}
 use Rattle.lemma_log.proofs.LineBack.{lines_back}
@@ -31,30 +34,34 @@ event_opened n kind at rest e few small =
 parts4 : (a b c d : List ℕ) → ((a ++ b) ++ c) ++ d ≡ a ++ (b ++ (c ++ d))
 parts4 a b c d = simp append_assoc
 
-lemma_back : (slot : ℕ) (arcs : List Lag) (lines : List Line) → IsWritableBody (event.Lemma slot arcs lines) → event_in (body_text (event.Lemma slot arcs lines)) ≡ Some (event.Lemma slot arcs lines)
+lemma_back : (slot : ℕ) (arcs : List Lag) (lines : List Line) → IsWritableBody (event.Lemma slot arcs lines)
+    → event_in (body_text (event.Lemma slot arcs lines)) ≡ Some (event.Lemma slot arcs lines)
 lemma_back slot arcs lines h =
     ap event_in (parts4 (number_text (4 * slot)) (number_text (length arcs)) (flat_map arc_text arcs) (flat_map line_text lines))
     ∙ event_opened (4 * slot) 0 slot (number_text (length arcs) ++ (flat_map arc_text arcs ++ flat_map line_text lines)) (omega arith) (omega arith) h.0
-    ∙ opened (length arcs) (flat_map arc_text arcs ++ flat_map line_text lines) (λ count left. then_read (many_in arc_in count left) (lemma_lines slot)) (let few : length arcs ≤ 1024 = h.1 in omega arith)
+    ∙ opened (length arcs) (flat_map arc_text arcs ++ flat_map line_text lines)
+    (λ count left. then_read (many_in arc_in count left) (lemma_lines slot))
+    (let few : length arcs ≤ 1024 = h.1 in omega arith)
     ∙ ap (λ part. then_read part (lemma_lines slot)) (many_back arc_in arc_text IsWritableArc lag_back arcs (flat_map line_text lines) h.2)
     ∙ ap (option_map (event.Lemma slot arcs)) (lines_back lines (length (flat_map line_text lines)) (omega arith) h.3)
 
-schedule_back : (starts : List ℤ) → IsIndex (length starts) → AllByRecursion IsAmount starts → event_in (body_text (event.Schedule starts) ++ []) ≡ Some (event.Schedule starts)
+schedule_back : (starts : List ℤ) → IsIndex (length starts) → AllByRecursion IsAmount starts
+    → event_in (body_text (event.Schedule starts) ++ []) ≡ Some (event.Schedule starts)
 schedule_back starts few all =
     ap event_in (append_assoc (number_text (4 * length starts + 2)) (flat_map signed_text starts) [])
     ∙ event_opened (4 * length starts + 2) 2 (length starts) (flat_map signed_text starts ++ []) refl (omega arith) few
     ∙ ap (λ part. then_read part (λ found. last (event.Schedule found))) (many_back signed_in signed_text IsAmount amount_back starts [] all)
 
-claim_back : (c : Claim) → IsWritableClaim c → event_in (claim_text c ++ []) ≡ Some (event.Claim c)
-claim_back (claim.Optimal makespan) h =
+claim_back : (c : Verdict) → IsWritableClaim c → event_in (claim_text c ++ []) ≡ Some (event.Claim c)
+claim_back (verdict.Optimal makespan) h =
     ap event_in (append_assoc (number_text 3) (signed_text makespan) [])
     ∙ event_opened 3 3 0 (signed_text makespan ++ []) refl (omega arith) (omega arith)
-    ∙ ap (λ part. then_read part (λ found. last (event.Claim (claim.Optimal found)))) (amount_back makespan [] h)
-claim_back (claim.Bound bound) h =
+    ∙ ap (λ part. then_read part (λ found. last (event.Claim (verdict.Optimal found)))) (amount_back makespan [] h)
+claim_back (verdict.Bound bound) h =
     ap event_in (append_assoc (number_text 7) (signed_text bound) [])
     ∙ event_opened 7 3 1 (signed_text bound ++ []) refl (omega arith) (omega arith)
-    ∙ ap (λ part. then_read part (λ found. last (event.Claim (claim.Bound found)))) (amount_back bound [] h)
-claim_back claim.NoSchedule h = event_opened 11 3 2 [] refl (omega arith) (omega arith)
+    ∙ ap (λ part. then_read part (λ found. last (event.Claim (verdict.Bound found)))) (amount_back bound [] h)
+claim_back verdict.NoSchedule h = event_opened 11 3 2 [] refl (omega arith) (omega arith)
 
 body_back : (e : Event) → IsWritableBody e → event_in (body_text e) ≡ Some e
 body_back (event.Lemma slot arcs lines) h = lemma_back slot arcs lines h
@@ -86,9 +93,9 @@ body_is_short (event.Lemma slot arcs lines) h =
     ∙ short_lemma slot (length arcs) (flat_map arc_text arcs ++ flat_map line_text lines) h.0 h.1
 body_is_short (event.Drop slot) h = ap is_long (sym (append-nil (number_text (4 * slot + 1)))) ∙ other_kind (4 * slot + 1) 0 slot [] refl (omega arith) h
 body_is_short (event.Schedule starts) h = other_kind (4 * length starts + 2) 1 (length starts) (flat_map signed_text starts) refl (omega arith) h.0
-body_is_short (event.Claim (claim.Optimal makespan)) h = other_kind 3 2 0 (signed_text makespan) refl (omega arith) (omega arith)
-body_is_short (event.Claim (claim.Bound bound)) h = other_kind 7 2 1 (signed_text bound) refl (omega arith) (omega arith)
-body_is_short (event.Claim claim.NoSchedule) h = ap is_long (sym (append-nil (number_text 11))) ∙ other_kind 11 2 2 [] refl (omega arith) (omega arith)
+body_is_short (event.Claim (verdict.Optimal makespan)) h = other_kind 3 2 0 (signed_text makespan) refl (omega arith) (omega arith)
+body_is_short (event.Claim (verdict.Bound bound)) h = other_kind 7 2 1 (signed_text bound) refl (omega arith) (omega arith)
+body_is_short (event.Claim verdict.NoSchedule) h = ap is_long (sym (append-nil (number_text 11))) ∙ other_kind 11 2 2 [] refl (omega arith) (omega arith)
 
 whole_back : (e : Event) → IsWritableBody e → whole_in (body_text e) ≡ Ok e
 whole_back e h = rw (body_is_short e h) (ap known (body_back e h))

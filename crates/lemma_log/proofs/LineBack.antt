@@ -1,5 +1,7 @@
 -- Lines are read back.
-use Rattle.std.proofs.Common.{◌≡◌, ◌≤◌, ◌<◌, ℕ, ◌+◌, ◌-◌, ◌*◌, ◌/◌, ◌%◌, ◌^◌, ℤ, pos, negsuc, ◌+ℤ◌, ◌-ℤ◌, Bool, true, false, cond, List, [], ◌∷◌, ◌++◌, length, Option, Some, None, option_map, refl, ap, ◌∙◌, append_assoc, arith}
+use Rattle.std.proofs.Common.{◌≡◌, ◌≤◌, ◌<◌, ℕ, ◌+◌, ◌-◌, ◌*◌, ◌/◌, ◌%◌, ◌^◌, ℤ, pos, negsuc, ◌+ℤ◌, ◌-ℤ◌, Bool, true}
+use Rattle.std.proofs.Common.{false, cond, List, [], ◌∷◌, ◌++◌, length, Option, Some, None, option_map, refl, ap, ◌∙◌}
+use Rattle.std.proofs.Common.{append_assoc, arith}
 use Rattle.std.specs.List.{flat_map, AllByRecursion}
 use Rattle.std.specs.Ordering.{int_eq}
 use Rattle.std.proofs.lemmas.Bool.Decides.{Decides-int_eq}
@@ -31,28 +33,42 @@ size_within from to hf ht = record {
 end_again : (from to : ℤ) → from +ℤ (to -ℤ from) ≡ to
 end_again from to = omega (arith, ints)
 
-size_back : (from to : ℤ) (rest : List ℕ) → IsAmount from → IsAmount to → signed_in (signed_text (to -ℤ from) ++ rest) ≡ Some (record { value = to -ℤ from; left = rest })
+size_back : (from to : ℤ) (rest : List ℕ) → IsAmount from → IsAmount to
+    → signed_in (signed_text (to -ℤ from) ++ rest) ≡ Some (record { value = to -ℤ from; left = rest })
 size_back from to rest hf ht = signed_back (to -ℤ from) rest (place_small (to -ℤ from) (size_within from to hf ht))
 
 -- ---- overloads
 
-load_back : (r : ℕ) (from to : ℤ) (rest : List ℕ) → IsAmount from → IsAmount to → load_in r (signed_text from ++ (signed_text (to -ℤ from) ++ rest)) ≡ Some (record { value = Load r from to; left = rest })
+load_back : (r : ℕ) (from to : ℤ) (rest : List ℕ) → IsAmount from → IsAmount to
+    → load_in r (signed_text from ++ (signed_text (to -ℤ from) ++ rest)) ≡ Some
+    (record { value = Load r from to; left = rest })
 load_back r from to rest hf ht =
     rw (amount_back from (signed_text (to -ℤ from) ++ rest) hf, size_back from to rest hf ht, end_again from to)
 
-short_load_back : (r : ℕ) (from to : ℤ) (rest : List ℕ) → to -ℤ from ≡ pos 1 → IsAmount from → short_load_in r (signed_text from ++ rest) ≡ Some (record { value = Load r from to; left = rest })
+short_load_back : (r : ℕ) (from to : ℤ) (rest : List ℕ) → to -ℤ from ≡ pos 1 → IsAmount from
+    → short_load_in r (signed_text from ++ rest) ≡ Some (record { value = Load r from to; left = rest })
 short_load_back r from to rest one hf =
     let last : from +ℤ pos 1 ≡ to = omega (arith, ints) in
     rw (amount_back from rest hf, last)
 
-clique_back : (from to : ℤ) (members : List ℕ) (rest : List ℕ) → IsAmount from → IsAmount to → AllByRecursion IsIndex members → clique_in (length members) (signed_text from ++ (signed_text (to -ℤ from) ++ (flat_map number_text members ++ rest))) ≡ Some (record { value = Clique from to members; left = rest })
+clique_back : (from to : ℤ) (members : List ℕ) (rest : List ℕ) → IsAmount from → IsAmount to
+    → AllByRecursion IsIndex members → clique_in (length members)
+    (signed_text from ++ (signed_text (to -ℤ from) ++ (flat_map number_text members ++ rest))) ≡ Some
+    (record { value = Clique from to members; left = rest })
 clique_back from to members rest hf ht all =
-    rw (amount_back from (signed_text (to -ℤ from) ++ (flat_map number_text members ++ rest)) hf, size_back from to (flat_map number_text members ++ rest) hf ht, end_again from to, many_back number_in number_text IsIndex index_back members rest all)
+    rw (
+      amount_back from (signed_text (to -ℤ from) ++ (flat_map number_text members ++ rest)) hf,
+      size_back from to (flat_map number_text members ++ rest) hf ht,
+      end_again from to,
+      many_back number_in number_text IsIndex index_back members rest all,
+    )
 
 -- ---- lines
 
 -- a number that has its kind as its remainder by 8
-eighths : {B : Type 0} (n kind at : ℕ) (rest : List ℕ) (more : ℕ → ℕ → List ℕ → Option B) → n ≡ 8 * at + kind → kind < 8 → IsIndex at → then_read (number_in (number_text n ++ rest)) (λ first. more (first % 8) (first / 8)) ≡ more kind at rest
+eighths : {B : Type 0} (n kind at : ℕ) (rest : List ℕ) (more : ℕ → ℕ → List ℕ → Option B) → n ≡ 8 * at + kind → kind < 8
+    → IsIndex at → then_read (number_in (number_text n ++ rest)) (λ first. more (first % 8) (first / 8)) ≡ more kind at
+    rest
 eighths n kind at rest more e few small =
     let rem : n % 8 ≡ kind = omega arith in
     let quo : n / 8 ≡ at = omega arith in
@@ -77,34 +93,63 @@ parts4 a b c d e = simp append_assoc
 parts5 : (a b c d e f : List ℕ) → (((a ++ (b ++ c)) ++ d) ++ e) ++ f ≡ a ++ (b ++ (c ++ (d ++ (e ++ f))))
 parts5 a b c d e f = simp append_assoc
 
-bare_load : (r : ℕ) (from to : ℤ) → IsIndex r → IsAmount from → IsAmount to → IsBack (number_text (8 * r + 2) ++ window_text from (to -ℤ from)) (Push None (Load r from to))
+bare_load : (r : ℕ) (from to : ℤ) → IsIndex r → IsAmount from → IsAmount to
+    → IsBack (number_text (8 * r + 2) ++ window_text from (to -ℤ from)) (Push None (Load r from to))
 bare_load r from to hr hf ht rest =
-    simp append_assoc (line_opened (8 * r + 2) 2 r (signed_text from ++ (signed_text (to -ℤ from) ++ rest)) refl (omega arith) hr ∙ ap (λ part. then_read part (pushed 2)) (load_back r from to rest hf ht))
+    simp append_assoc (line_opened (8 * r + 2) 2 r (signed_text from ++ (signed_text (to -ℤ from) ++ rest)) refl
+    (omega arith) hr ∙ ap (λ part. then_read part (pushed 2)) (load_back r from to rest hf ht))
 
-bare_clique : (from to : ℤ) (members : List ℕ) → IsIndex (length members) → IsAmount from → IsAmount to → AllByRecursion IsIndex members → IsBack (number_text (8 * length members + 5) ++ window_text from (to -ℤ from) ++ flat_map number_text members) (Push None (Clique from to members))
+bare_clique : (from to : ℤ) (members : List ℕ) → IsIndex (length members) → IsAmount from → IsAmount to
+    → AllByRecursion IsIndex members → IsBack
+    (number_text (8 * length members + 5) ++ window_text from (to -ℤ from) ++ flat_map number_text members)
+    (Push None (Clique from to members))
 bare_clique from to members few hf ht all rest =
-    simp append_assoc (line_opened (8 * length members + 5) 5 (length members) (signed_text from ++ (signed_text (to -ℤ from) ++ (flat_map number_text members ++ rest))) refl (omega arith) few ∙ ap (λ part. then_read part (pushed 5)) (clique_back from to members rest hf ht all))
+    simp append_assoc (line_opened (8 * length members + 5) 5 (length members)
+    (signed_text from ++ (signed_text (to -ℤ from) ++ (flat_map number_text members ++ rest))) refl (omega arith)
+    few ∙ ap (λ part. then_read part (pushed 5)) (clique_back from to members rest hf ht all))
 
-shown_clique : (from to : ℤ) (members : List ℕ) (e : Lag) → IsIndex (length members) → IsAmount from → IsAmount to → AllByRecursion IsIndex members → IsWritableArc e → IsBack ((number_text (8 * length members + 6) ++ window_text from (to -ℤ from) ++ flat_map number_text members) ++ arc_text e) (Push (Some e) (Clique from to members))
+shown_clique : (from to : ℤ) (members : List ℕ) (e : Lag) → IsIndex (length members) → IsAmount from → IsAmount to
+    → AllByRecursion IsIndex members → IsWritableArc e
+    → IsBack ((number_text (8 * length members + 6) ++ window_text from (to -ℤ from) ++ flat_map number_text members) ++
+    arc_text e) (Push (Some e) (Clique from to members))
 shown_clique from to members e few hf ht all he rest =
-    ap line_in (parts5 (number_text (8 * length members + 6)) (signed_text from) (signed_text (to -ℤ from)) (flat_map number_text members) (arc_text e) rest) ∙ (line_opened (8 * length members + 6) 6 (length members) (signed_text from ++ (signed_text (to -ℤ from) ++ (flat_map number_text members ++ (arc_text e ++ rest)))) refl (omega arith) few ∙ ap (λ part. then_read part (pushed 6)) (clique_back from to members (arc_text e ++ rest) hf ht all) ∙ ap (part_as (λ f. Push (Some f) (Clique from to members))) (lag_back e rest he))
+    ap line_in (parts5 (number_text (8 * length members + 6)) (signed_text from) (signed_text (to -ℤ from))
+    (flat_map number_text members) (arc_text e) rest)
+    ∙ (line_opened (8 * length members + 6) 6 (length members)
+    (signed_text from ++ (signed_text (to -ℤ from) ++ (flat_map number_text members ++ (arc_text e ++ rest)))) refl
+    (omega arith) few ∙ ap (λ part. then_read part (pushed 6))
+    (clique_back from to members (arc_text e ++ rest) hf ht all)
+    ∙ ap (part_as (λ f. Push (Some f) (Clique from to members))) (lag_back e rest he))
 
-long_load : (r : ℕ) (from to : ℤ) (e : Lag) → IsIndex r → IsAmount from → IsAmount to → IsWritableArc e → IsBack ((number_text (8 * r + 4) ++ window_text from (to -ℤ from)) ++ arc_text e) (Push (Some e) (Load r from to))
+long_load : (r : ℕ) (from to : ℤ) (e : Lag) → IsIndex r → IsAmount from → IsAmount to → IsWritableArc e
+    → IsBack ((number_text (8 * r + 4) ++ window_text from (to -ℤ from)) ++ arc_text e) (Push (Some e) (Load r from to))
 long_load r from to e hr hf ht he rest =
-    ap line_in (parts4 (number_text (8 * r + 4)) (signed_text from) (signed_text (to -ℤ from)) (arc_text e) rest) ∙ (line_opened (8 * r + 4) 4 r (signed_text from ++ (signed_text (to -ℤ from) ++ (arc_text e ++ rest))) refl (omega arith) hr ∙ ap (λ part. then_read part (pushed 4)) (load_back r from to (arc_text e ++ rest) hf ht) ∙ ap (part_as (λ f. Push (Some f) (Load r from to))) (lag_back e rest he))
+    ap line_in (parts4 (number_text (8 * r + 4)) (signed_text from) (signed_text (to -ℤ from)) (arc_text e) rest)
+    ∙ (line_opened (8 * r + 4) 4 r (signed_text from ++ (signed_text (to -ℤ from) ++ (arc_text e ++ rest))) refl
+    (omega arith) hr ∙ ap (λ part. then_read part (pushed 4)) (load_back r from to (arc_text e ++ rest) hf ht)
+    ∙ ap (part_as (λ f. Push (Some f) (Load r from to))) (lag_back e rest he))
 
-short_load : (r : ℕ) (from to : ℤ) (e : Lag) → to -ℤ from ≡ pos 1 → IsIndex r → IsAmount from → IsWritableArc e → IsBack ((number_text (8 * r + 3) ++ signed_text from) ++ arc_text e) (Push (Some e) (Load r from to))
+short_load : (r : ℕ) (from to : ℤ) (e : Lag) → to -ℤ from ≡ pos 1 → IsIndex r → IsAmount from → IsWritableArc e
+    → IsBack ((number_text (8 * r + 3) ++ signed_text from) ++ arc_text e) (Push (Some e) (Load r from to))
 short_load r from to e one hr hf he rest =
-    ap line_in (parts3 (number_text (8 * r + 3)) (signed_text from) (arc_text e) rest) ∙ (line_opened (8 * r + 3) 3 r (signed_text from ++ (arc_text e ++ rest)) refl (omega arith) hr ∙ ap (λ part. then_read part (pushed 3)) (short_load_back r from to (arc_text e ++ rest) one hf) ∙ ap (part_as (λ f. Push (Some f) (Load r from to))) (lag_back e rest he))
+    ap line_in (parts3 (number_text (8 * r + 3)) (signed_text from) (arc_text e) rest)
+    ∙ (line_opened (8 * r + 3) 3 r (signed_text from ++ (arc_text e ++ rest)) refl (omega arith) hr
+    ∙ ap (λ part. then_read part (pushed 3)) (short_load_back r from to (arc_text e ++ rest) one hf)
+    ∙ ap (part_as (λ f. Push (Some f) (Load r from to))) (lag_back e rest he))
 
-shown_load : (b : Bool) (r : ℕ) (from to : ℤ) (e : Lag) → int_eq (to -ℤ from) (pos 1) ≡ b → IsIndex r → IsAmount from → IsAmount to → IsWritableArc e → IsBack (cond b (number_text (8 * r + 3) ++ signed_text from) (number_text (8 * r + 4) ++ window_text from (to -ℤ from)) ++ arc_text e) (Push (Some e) (Load r from to))
+shown_load : (b : Bool) (r : ℕ) (from to : ℤ) (e : Lag) → int_eq (to -ℤ from) (pos 1) ≡ b → IsIndex r → IsAmount from
+    → IsAmount to → IsWritableArc e → IsBack
+    (cond b (number_text (8 * r + 3) ++ signed_text from) (number_text (8 * r + 4) ++ window_text from (to -ℤ from)) ++
+    arc_text e) (Push (Some e) (Load r from to))
 shown_load true r from to e is hr hf ht he = short_load r from to e ((Decides-int_eq (to -ℤ from) (pos 1)).0 is) hr hf he
 shown_load false r from to e is hr hf ht he = long_load r from to e hr hf ht he
 
 pub line_back : (line : Line) → IsWritableLine line → IsBack (line_text line) line
 line_back (Use slot) h rest = line_opened (8 * slot) 0 slot rest (omega arith) (omega arith) h
 line_back (Force pair) h rest =
-    rw append_assoc (line_opened (8 * pair.before + 1) 1 pair.before (number_text pair.after ++ rest) refl (omega arith) h.0 ∙ ap (part_as (λ after. Force (record { before = pair.before; after = after }))) (index_back pair.after rest h.1))
+    rw append_assoc (line_opened (8 * pair.before + 1) 1 pair.before (number_text pair.after ++ rest) refl (omega arith)
+    h.0 ∙ ap (part_as (λ after. Force (record { before = pair.before; after = after })))
+    (index_back pair.after rest h.1))
 line_back (Push None (Load r from to)) h rest = bare_load r from to h.0 h.1 h.2 rest
 line_back (Push None (Clique from to members)) h rest = bare_clique from to members h.0 h.1 h.2 h.3 rest
 line_back (Push (Some e) (Load r from to)) h rest = shown_load (int_eq (to -ℤ from) (pos 1)) r from to e refl h.0.0 h.0.1 h.0.2 h.1 rest
@@ -120,9 +165,12 @@ some_bytes : (bytes : List ℕ) (line : Line) → line_in (bytes ++ []) ≡ Some
 some_bytes [] line h = absurd (let e = no_line in cc)
 some_bytes (b ∷ bs) line h = omega arith
 
-pub lines_back : (lines : List Line) (most : ℕ) → length (flat_map line_text lines) ≤ most → AllByRecursion IsWritableLine lines → lines_in most (flat_map line_text lines) ≡ Some lines
+pub lines_back : (lines : List Line) (most : ℕ) → length (flat_map line_text lines) ≤ most
+    → AllByRecursion IsWritableLine lines → lines_in most (flat_map line_text lines) ≡ Some lines
 lines_back [] most room all = refl
 lines_back (line ∷ lines) most room all =
     let some = some_bytes (line_text line) line (line_back line all.0 []) in
     let sum = length-append (line_text line) (flat_map line_text lines) in
-    more_lines most (line_text line ++ flat_map line_text lines) line (flat_map line_text lines) (omega arith) (omega arith) (line_back line all.0 (flat_map line_text lines)) ∙ ap (option_map (λ ls. line ∷ ls)) (lines_back lines (most - 1) (omega arith) all.1)
+    more_lines most (line_text line ++ flat_map line_text lines) line (flat_map line_text lines) (omega arith)
+    (omega arith) (line_back line all.0 (flat_map line_text lines))
+    ∙ ap (option_map (λ ls. line ∷ ls)) (lines_back lines (most - 1) (omega arith) all.1)

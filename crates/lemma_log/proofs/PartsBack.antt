@@ -1,5 +1,6 @@
 -- Numbers, arcs and lists of them are read back.
-use Rattle.std.proofs.Common.{◌≡◌, ◌<◌, ℕ, zero, suc, ◌+◌, ◌*◌, ◌/◌, ◌%◌, ◌^◌, ℤ, pos, negsuc, neg_ℤ, List, [], ◌∷◌, ◌++◌, length, Option, Some, refl, ap, ◌∙◌, append_assoc, arith}
+use Rattle.std.proofs.Common.{◌≡◌, ◌<◌, ℕ, zero, suc, ◌+◌, ◌*◌, ◌/◌, ◌%◌, ◌^◌, ℤ, pos, negsuc, neg_ℤ, List, [], ◌∷◌}
+use Rattle.std.proofs.Common.{◌++◌, length, Option, Some, refl, ap, ◌∙◌, append_assoc, arith}
 use Rattle.std.specs.List.{flat_map, AllByRecursion}
 use Rattle.std.specs.Result.{result_ok}
 use Rattle.std.proofs.lemmas.Int.{ints}
@@ -50,7 +51,9 @@ amount_back v rest h = signed_back v rest (amount_place v h)
 abbrev pub AreBack : {A : Type 0} → (List ℕ → Option (Part A)) → (A → List ℕ) → (A → Type 0) → Type 0
 AreBack {A} read text Fits = (x : A) (rest : List ℕ) → Fits x → read (text x ++ rest) ≡ Some (record { value = x; left = rest })
 
-pub many_back : {A : Type 0} (read : List ℕ → Option (Part A)) (text : A → List ℕ) (Fits : A → Type 0) → AreBack read text Fits → (xs : List A) (rest : List ℕ) → AllByRecursion Fits xs → many_in read (length xs) (flat_map text xs ++ rest) ≡ Some (record { value = xs; left = rest })
+pub many_back : {A : Type 0} (read : List ℕ → Option (Part A)) (text : A → List ℕ) (Fits : A → Type 0)
+    → AreBack read text Fits → (xs : List A) (rest : List ℕ) → AllByRecursion Fits xs
+    → many_in read (length xs) (flat_map text xs ++ rest) ≡ Some (record { value = xs; left = rest })
 many_back read text Fits one [] rest all = refl
 many_back read text Fits one (x ∷ xs) rest all =
     rw (append_assoc (text x) (flat_map text xs) rest, one x (flat_map text xs ++ rest) all.0, many_back read text Fits one xs rest all.1)
@@ -58,16 +61,21 @@ many_back read text Fits one (x ∷ xs) rest all =
 -- ---- arcs
 
 -- a number that has its kind as its remainder by 3
-thirds : {B : Type 0} (n kind at : ℕ) (rest : List ℕ) (more : ℕ → ℕ → List ℕ → Option B) → n ≡ 3 * at + kind → kind < 3 → IsIndex at → then_read (number_in (number_text n ++ rest)) (λ first. more (first % 3) (first / 3)) ≡ more kind at rest
+thirds : {B : Type 0} (n kind at : ℕ) (rest : List ℕ) (more : ℕ → ℕ → List ℕ → Option B) → n ≡ 3 * at + kind → kind < 3
+    → IsIndex at → then_read (number_in (number_text n ++ rest)) (λ first. more (first % 3) (first / 3)) ≡ more kind at
+    rest
 thirds n kind at rest more e few small =
     let rem : n % 3 ≡ kind = omega arith in
     let quo : n / 3 ≡ at = omega arith in
     opened n rest (λ first. more (first % 3) (first / 3)) (omega arith) ∙ rw (rem, quo)
 
-arc_from_zero : (j : ℕ) (v : ℤ) (rest : List ℕ) → IsIndex j → IsAmount v → arc_in (number_text (3 * j) ++ (signed_text v ++ rest)) ≡ Some (record { value = record { from = 0; to = j; weight = v }; left = rest })
+arc_from_zero : (j : ℕ) (v : ℤ) (rest : List ℕ) → IsIndex j → IsAmount v
+    → arc_in (number_text (3 * j) ++ (signed_text v ++ rest)) ≡ Some
+    (record { value = record { from = 0; to = j; weight = v }; left = rest })
 unfolding arc_in
 arc_from_zero j v rest hj hv =
-    thirds (3 * j) 0 j (signed_text v ++ rest) arc_of (omega arith) (omega arith) hj ∙ ap (part_as (λ w. record { from = 0; to = j; weight = w })) (amount_back v rest hv)
+    thirds (3 * j) 0 j (signed_text v ++ rest) arc_of (omega arith) (omega arith) hj
+    ∙ ap (part_as (λ w. record { from = 0; to = j; weight = w })) (amount_back v rest hv)
 
 neg_again : (v : ℤ) → neg_ℤ (neg_ℤ v) ≡ v
 neg_again v = omega (arith, ints)
@@ -75,17 +83,28 @@ neg_again v = omega (arith, ints)
 neg_small : (v : ℤ) → IsAmount v → IsAmount (neg_ℤ v)
 neg_small v h = record { at_least = omega (arith, ints, h.at_most); at_most = omega (arith, ints, h.at_least) }
 
-arc_to_zero : (i : ℕ) (v : ℤ) (rest : List ℕ) → IsIndex i → IsAmount v → arc_in (number_text (3 * i + 1) ++ (signed_text (neg_ℤ v) ++ rest)) ≡ Some (record { value = record { from = i; to = 0; weight = v }; left = rest })
+arc_to_zero : (i : ℕ) (v : ℤ) (rest : List ℕ) → IsIndex i → IsAmount v
+    → arc_in (number_text (3 * i + 1) ++ (signed_text (neg_ℤ v) ++ rest)) ≡ Some
+    (record { value = record { from = i; to = 0; weight = v }; left = rest })
 unfolding arc_in
 arc_to_zero i v rest hi hv =
-    thirds (3 * i + 1) 1 i (signed_text (neg_ℤ v) ++ rest) arc_of (omega arith) (omega arith) hi ∙ ap (part_as (λ w. record { from = i; to = 0; weight = neg_ℤ w })) (amount_back (neg_ℤ v) rest (neg_small v hv)) ∙ ap (λ w. Some (record { value = record { from = i; to = 0; weight = w }; left = rest })) (neg_again v)
+    thirds (3 * i + 1) 1 i (signed_text (neg_ℤ v) ++ rest) arc_of (omega arith) (omega arith) hi
+    ∙ ap (part_as (λ w. record { from = i; to = 0; weight = neg_ℤ w }))
+    (amount_back (neg_ℤ v) rest (neg_small v hv))
+    ∙ ap (λ w. Some (record { value = record { from = i; to = 0; weight = w }; left = rest })) (neg_again v)
 
-arc_of_others : (i j : ℕ) (v : ℤ) (rest : List ℕ) → IsIndex i → IsIndex j → IsAmount v → arc_in (number_text (3 * i + 2) ++ (number_text j ++ (signed_text v ++ rest))) ≡ Some (record { value = record { from = i; to = j; weight = v }; left = rest })
+arc_of_others : (i j : ℕ) (v : ℤ) (rest : List ℕ) → IsIndex i → IsIndex j → IsAmount v
+    → arc_in (number_text (3 * i + 2) ++ (number_text j ++ (signed_text v ++ rest))) ≡ Some
+    (record { value = record { from = i; to = j; weight = v }; left = rest })
 unfolding arc_in
 arc_of_others i j v rest hi hj hv =
-    thirds (3 * i + 2) 2 i (number_text j ++ (signed_text v ++ rest)) arc_of (omega arith) (omega arith) hi ∙ opened j (signed_text v ++ rest) (weighted i) (omega arith) ∙ ap (part_as (λ w. record { from = i; to = j; weight = w })) (amount_back v rest hv)
+    thirds (3 * i + 2) 2 i (number_text j ++ (signed_text v ++ rest)) arc_of (omega arith) (omega arith) hi
+    ∙ opened j (signed_text v ++ rest) (weighted i) (omega arith)
+    ∙ ap (part_as (λ w. record { from = i; to = j; weight = w })) (amount_back v rest hv)
 
-arc_by : (i j : ℕ) (v : ℤ) (rest : List ℕ) → IsIndex i → IsIndex j → IsAmount v → arc_in (arc_text (record { from = i; to = j; weight = v }) ++ rest) ≡ Some (record { value = record { from = i; to = j; weight = v }; left = rest })
+arc_by : (i j : ℕ) (v : ℤ) (rest : List ℕ) → IsIndex i → IsIndex j → IsAmount v
+    → arc_in (arc_text (record { from = i; to = j; weight = v }) ++ rest) ≡ Some
+    (record { value = record { from = i; to = j; weight = v }; left = rest })
 arc_by zero j v rest hi hj hv = rw append_assoc (arc_from_zero j v rest hj hv)
 arc_by (suc i) zero v rest hi hj hv = rw (eqb-suc-zero i, append_assoc) (arc_to_zero (suc i) v rest hi hv)
 arc_by (suc i) (suc j) v rest hi hj hv = simp (eqb-suc-zero, append_assoc) (arc_of_others (suc i) (suc j) v rest hi hj hv)

@@ -1,5 +1,6 @@
 -- What follows an event is the end of the bytes.
-use Rattle.std.proofs.Common.{◌≡◌, ◌<◌, ◌≤◌, ℕ, zero, suc, ◌-◌, List, [], ◌∷◌, ◌++◌, length, take, drop, Result, Ok, Err, MatchResult, ◌⊎◌, inl, inr, refl, sym, ap, ◌∙◌, subst, append_assoc, arith}
+use Rattle.std.proofs.Common.{◌≡◌, ◌<◌, ◌≤◌, ℕ, zero, suc, ◌-◌, List, [], ◌∷◌, ◌++◌, length, take, drop, Result, Ok}
+use Rattle.std.proofs.Common.{Err, MatchResult, ◌⊎◌, inl, inr, refl, sym, ap, ◌∙◌, subst, append_assoc, arith}
 use Rattle.std.proofs.lemmas.List.{length-append, take-append-drop}
 use Rattle.std.proofs.lemmas.Bool.{cases_lt, lt-ltb, le-ltb}
 use Rattle.std.proofs.Math.Seq.{drop-append_seam}
@@ -26,12 +27,14 @@ digits_end zero bytes = rw (read_none zero bytes refl) tt
 digits_end (suc most) [] = rw (read_empty (suc most) (omega arith)) tt
 digits_end (suc most) (b ∷ bs) = digits_end_by most b bs (digits_end most bs) (cases_lt b 128)
 
-cut_end_by : (bytes : List ℕ) (size : Part ℕ) → IsEnd bytes (Ok size) → (length size.left < size.value) ⊎ (size.value ≤ length size.left) → IsEnd bytes (cut (Ok size))
+cut_end_by : (bytes : List ℕ) (size : Part ℕ) → IsEnd bytes (Ok size) → (length size.left < size.value)
+    ⊎ (size.value ≤ length size.left) → IsEnd bytes (cut (Ok size))
 cut_end_by bytes size h (inl few) = rw (lt-ltb (length size.left) size.value few) tt
 cut_end_by bytes size h (inr enough) =
     rw (le-ltb (length size.left) size.value enough) (
       h.0 ++ take size.value size.left,
-      h.1 ∙ ap (λ (rest : List ℕ). h.0 ++ rest) (sym (take-append-drop size.value size.left)) ∙ sym (append_assoc h.0 (take size.value size.left) (drop size.value size.left)),
+      h.1 ∙ ap (λ (rest : List ℕ). h.0 ++ rest) (sym (take-append-drop size.value size.left))
+          ∙ sym (append_assoc h.0 (take size.value size.left) (drop size.value size.left)),
     )
 
 cut_end : (bytes : List ℕ) (size : Result (Part ℕ) DecodeFault) → IsEnd bytes size → IsEnd bytes (cut size)
@@ -62,8 +65,10 @@ end_is : (bytes left : List ℕ) (e : Event) → read_in bytes ≡ Ok (record { 
 end_is bytes left e h = subst (λ (read : Result (Part Event) DecodeFault). IsEnd bytes read) h (read_end bytes)
 
 -- so many bytes are those of the event
-left_after : (bytes left : List ℕ) (e : Event) (count : ℕ) → read_in bytes ≡ Ok (record { value = e; left = left }) → count ≡ length bytes - length left → left ≡ drop count bytes
+left_after : (bytes left : List ℕ) (e : Event) (count : ℕ) → read_in bytes ≡ Ok (record { value = e; left = left })
+    → count ≡ length bytes - length left → left ≡ drop count bytes
 left_after bytes left e count h is = let end = end_is bytes left e h in seam bytes end.0 left count end.1 is
 
-pub first_read : (bytes left : List ℕ) (e : Event) (count : ℕ) → read_in bytes ≡ Ok (record { value = e; left = left }) → count ≡ length bytes - length left → read_in bytes ≡ Ok (record { value = e; left = drop count bytes })
+pub first_read : (bytes left : List ℕ) (e : Event) (count : ℕ) → read_in bytes ≡ Ok (record { value = e; left = left })
+    → count ≡ length bytes - length left → read_in bytes ≡ Ok (record { value = e; left = drop count bytes })
 first_read bytes left e count h is = h ∙ ap (λ (rest : List ℕ). Ok (record { value = e; left = rest })) (left_after bytes left e count h is)

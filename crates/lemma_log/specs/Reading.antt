@@ -1,5 +1,7 @@
 -- How the bytes of a log are read.
-use Rattle.std.specs.Prelude.{ℕ, Bool, false, zero, suc, ℤ, pos, negsuc, ◌-◌, ◌^◌, ◌/◌, ◌%◌, ◌+ℤ◌, neg_ℤ, if◌then◌else◌, ◌==◌, ◌||◌, Option, Some, None, option_map, Result, Ok, Err, List, [], ◌∷◌, length, nat_lt, nat_eq, take, drop}
+use Rattle.std.specs.Prelude.{ℕ, Bool, false, zero, suc, ℤ, pos, negsuc, ◌-◌, ◌^◌, ◌/◌, ◌%◌, ◌+ℤ◌, neg_ℤ, if◌then◌else◌}
+use Rattle.std.specs.Prelude.{◌==◌, ◌||◌, Option, Some, None, option_map, Result, Ok, Err, List, [], ◌∷◌, length}
+use Rattle.std.specs.Prelude.{nat_lt, nat_eq, take, drop}
 use Rattle.std.specs.List.{starts_with}
 use Rattle.std.specs.Result.{result_ok}
 use Rattle.network.specs.declared.parts.Lag.{Lag}
@@ -10,7 +12,7 @@ use Rattle.lemma_proof.specs.declared.line.WindowOverload.{WindowOverload}
 use Rattle.lemma_proof.specs.declared.line.WindowOverload.TheVariants.{Load, Clique}
 use Rattle.lemma_log.specs.declared.event.Event.{Event}
 use Rattle.lemma_log.specs.declared.event.Event.TheVariants as event
-use Rattle.lemma_log.specs.declared.event.Claim.TheVariants as claim
+use Rattle.network.specs.declared.verdict.Verdict.TheVariants as verdict
 use Rattle.lemma_log.specs.declared.fault.DecodeFault.{DecodeFault}
 use Rattle.lemma_log.specs.declared.fault.DecodeFault.TheVariants as fault
 use Rattle.lemma_log.specs.declared.number.TheConstants.{MAX_DIGITS}
@@ -147,16 +149,16 @@ abbrev pub schedule_of : ℕ → List ℕ → Option Event
 schedule_of count bytes = then_read (many_in signed_in count bytes) (λ starts. last (event.Schedule starts))
 
 abbrev pub optimal_of : List ℕ → Option Event
-optimal_of bytes = then_read (signed_in bytes) (λ makespan. last (event.Claim (claim.Optimal makespan)))
+optimal_of bytes = then_read (signed_in bytes) (λ makespan. last (event.Claim (verdict.Optimal makespan)))
 
 abbrev pub bound_of : List ℕ → Option Event
-bound_of bytes = then_read (signed_in bytes) (λ bound. last (event.Claim (claim.Bound bound)))
+bound_of bytes = then_read (signed_in bytes) (λ bound. last (event.Claim (verdict.Bound bound)))
 
 abbrev pub claim_of : ℕ → List ℕ → Option Event
 claim_of at bytes =
     if at == 0 then optimal_of bytes
     else if at == 1 then bound_of bytes
-    else if at == 2 then last (event.Claim claim.NoSchedule) bytes
+    else if at == 2 then last (event.Claim verdict.NoSchedule) bytes
     else None
 
 -- the event of a kind, and of the number that has it

@@ -1,5 +1,6 @@
 -- The bytes of a log.
-use Rattle.std.specs.Prelude.{◌<◌, ◌≤◌, ℕ, ℤ, pos, ◌+◌, ◌*◌, ◌^◌, ◌-ℤ◌, neg_ℤ, if◌then◌else◌, ◌==◌, Bool, true, false, Some, None, List, [], ◌∷◌, ◌++◌, codes, length}
+use Rattle.std.specs.Prelude.{◌<◌, ◌≤◌, ℕ, ℤ, pos, ◌+◌, ◌*◌, ◌^◌, ◌-ℤ◌, neg_ℤ, if◌then◌else◌, ◌==◌, Bool, true, false}
+use Rattle.std.specs.Prelude.{Some, None, List, [], ◌∷◌, ◌++◌, codes, length}
 use Rattle.std.specs.List.{flat_map, AllByRecursion}
 use Rattle.std.specs.Ordering.{int_eq}
 use Rattle.network.specs.declared.parts.Lag.{Lag}
@@ -10,8 +11,8 @@ use Rattle.lemma_proof.specs.declared.line.WindowOverload.{WindowOverload}
 use Rattle.lemma_proof.specs.declared.line.WindowOverload.TheVariants.{Load, Clique}
 use Rattle.lemma_log.specs.declared.event.Event.{Event}
 use Rattle.lemma_log.specs.declared.event.Event.TheVariants as event
-use Rattle.lemma_log.specs.declared.event.Claim.{Claim}
-use Rattle.lemma_log.specs.declared.event.Claim.TheVariants as claim
+use Rattle.network.specs.declared.verdict.Verdict.{Verdict}
+use Rattle.network.specs.declared.verdict.Verdict.TheVariants as verdict
 use Rattle.lemma_log.specs.declared.writable.TheConstants.{MAX_ARCS}
 use Rattle.lemma_log.specs.Numbers.{number_text, signed_text}
 
@@ -59,10 +60,10 @@ line_text (Push (Some e) over) = overload_text true over ++ arc_text e
 
 -- ---- events, whose kind is the remainder of the first number by 4
 
-abbrev pub claim_text : Claim → List ℕ
-claim_text (claim.Optimal makespan) = number_text (4 * 0 + 3) ++ signed_text makespan
-claim_text (claim.Bound bound) = number_text (4 * 1 + 3) ++ signed_text bound
-claim_text claim.NoSchedule = number_text (4 * 2 + 3)
+abbrev pub claim_text : Verdict → List ℕ
+claim_text (verdict.Optimal makespan) = number_text (4 * 0 + 3) ++ signed_text makespan
+claim_text (verdict.Bound bound) = number_text (4 * 1 + 3) ++ signed_text bound
+claim_text verdict.NoSchedule = number_text (4 * 2 + 3)
 
 -- an event without the number of its bytes
 abbrev pub body_text : Event → List ℕ
@@ -102,10 +103,10 @@ IsWritableLine (Force pair) = IsIndex pair.before × IsIndex pair.after
 IsWritableLine (Push None over) = IsWritableOverload over
 IsWritableLine (Push (Some e) over) = IsWritableOverload over × IsWritableArc e
 
-abbrev pub IsWritableClaim : Claim → Type 0
-IsWritableClaim (claim.Optimal makespan) = IsAmount makespan
-IsWritableClaim (claim.Bound bound) = IsAmount bound
-IsWritableClaim claim.NoSchedule = Unit {0}
+abbrev pub IsWritableClaim : Verdict → Type 0
+IsWritableClaim (verdict.Optimal makespan) = IsAmount makespan
+IsWritableClaim (verdict.Bound bound) = IsAmount bound
+IsWritableClaim verdict.NoSchedule = Unit {0}
 
 abbrev pub IsWritableBody : Event → Type 0
 IsWritableBody (event.Lemma slot arcs lines) =

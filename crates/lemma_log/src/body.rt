@@ -4,7 +4,7 @@ ghost use Rattle.std.specs.Prelude.{◌≡◌, ◌≢◌, Some, None, IfOk, OnEr
 ghost use Rattle.lemma_log.specs.declared.fault.DecodeFault.TheVariants.{Memory};
 ghost use Rattle.lemma_log.specs.Reading.{last, lemma_lines, lemma_of, schedule_of, optimal_of, bound_of, claim_of, event_of, is_long, event_in};
 
-use crate::event::{Claim, Event};
+use crate::event::Event;
 use crate::fault::DecodeFault;
 use crate::line::lines;
 use crate::lists::{arcs, starts};
@@ -12,6 +12,7 @@ use crate::number::number;
 use crate::signed::signed;
 use crate::writable::MAX_ARCS;
 use lemma_proof::Lags;
+use network::Verdict;
 use std::alloc::Global;
 
 /// An event, where nothing is left after it.
@@ -60,7 +61,7 @@ fn optimal_of(bytes: &[u8]) -> Result<Event, DecodeFault>
     ensures fault { OnErr result (optimal_of bytes.now ≡ None) }
 {
     let (makespan, rest) = signed(bytes)?;
-    last(Event::Claim(Claim::Optimal { makespan }), rest)
+    last(Event::Claim(Verdict::Optimal { makespan }), rest)
 }
 
 /// The claim of a bound that bytes are.
@@ -69,7 +70,7 @@ fn bound_of(bytes: &[u8]) -> Result<Event, DecodeFault>
     ensures fault { OnErr result (bound_of bytes.now ≡ None) }
 {
     let (bound, rest) = signed(bytes)?;
-    last(Event::Claim(Claim::Bound { bound }), rest)
+    last(Event::Claim(Verdict::Bound { bound }), rest)
 }
 
 /// The claim of a number, and of the bytes after it.
@@ -80,7 +81,7 @@ fn claim_of(at: usize, bytes: &[u8]) -> Result<Event, DecodeFault>
     match at {
         0 => optimal_of(bytes),
         1 => bound_of(bytes),
-        2 => last(Event::Claim(Claim::NoSchedule), bytes),
+        2 => last(Event::Claim(Verdict::NoSchedule), bytes),
         _ => Err(DecodeFault::Form),
     }
 }

@@ -1,6 +1,7 @@
 //! What a log says, event after event.
 
 use lemma_proof::{Lags, Line};
+use network::Verdict;
 use record_text::{Listed, Starts};
 
 /// The lines of a lemma's proof, in order.
@@ -23,17 +24,7 @@ pub enum Event {
     Schedule {
         starts: Starts,
     },
-    /// What is proved, and the end of the log.
-    Claim(Claim),
-}
-
-/// What is proved of a project. Makespans and bounds are in periods.
-#[derive(Drop, Debug)]
-pub enum Claim {
-    /// The shortest schedule that the log has is this long, and none is shorter.
-    Optimal { makespan: i64 },
-    /// No feasible schedule is shorter than this.
-    Bound { bound: i64 },
-    /// There is no feasible schedule.
-    NoSchedule,
+    /// What is proved, and the end of the log: the makespan of the shortest schedule that the log has, a bound of every
+    /// feasible schedule, or that there is none.
+    Claim(Verdict),
 }

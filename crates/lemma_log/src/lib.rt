@@ -23,7 +23,7 @@ mod title;
 mod writable;
 mod write;
 
-pub use event::{Claim, Event, Lines};
+pub use event::{Event, Lines};
 pub use fault::DecodeFault;
 pub use law::spelling_law;
 pub use read::{Read, is_cut_off, read_event};

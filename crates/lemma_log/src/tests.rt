@@ -1,8 +1,8 @@
 //! Events and their bytes, these worked out by hand.
 
-use crate::{Claim, DecodeFault, Event, Lines, put_event, put_title, read_event, read_title};
+use crate::{DecodeFault, Event, Lines, put_event, put_title, read_event, read_title};
 use lemma_proof::{Lags, Line, WindowOverload};
-use network::{Lag, Pair};
+use network::{Lag, Pair, Verdict};
 use record_text::{Members, Starts};
 use std::alloc::Global;
 use std::process::Abort;
@@ -31,17 +31,17 @@ fn plays(rt: &impl Abort, alloc: Global, event: &Event, text: &[u8]) -> Result<(
 fn events_without_lines(rt: HostRuntime) -> Result<(), Fail> {
     let alloc = rt.alloc();
     plays(&rt, alloc, &Event::Drop { slot: 3 }, &[1, 13])?;
-    plays(&rt, alloc, &Event::Claim(Claim::NoSchedule), &[1, 11])?;
+    plays(&rt, alloc, &Event::Claim(Verdict::NoSchedule), &[1, 11])?;
     plays(
         &rt,
         alloc,
-        &Event::Claim(Claim::Bound { bound: 75 }),
+        &Event::Claim(Verdict::Bound { bound: 75 }),
         &[3, 7, 150, 1],
     )?;
     plays(
         &rt,
         alloc,
-        &Event::Claim(Claim::Optimal { makespan: 0 }),
+        &Event::Claim(Verdict::Optimal { makespan: 0 }),
         &[2, 3, 0],
     )?;
     let starts = Starts::new([0, 5, 64].to_vec(alloc)?);

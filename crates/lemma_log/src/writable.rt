@@ -4,9 +4,9 @@ ghost use Rattle.std.specs.Prelude.{◌≡◌, ◌↔◌, IsTrue};
 ghost use Rattle.std.specs.List.{AllByRecursion};
 ghost use Rattle.lemma_log.specs.Text.{IsAmount, IsIndex, IsWritableArc, IsWritableBody, IsWritableClaim, IsWritableLine, IsWritableOverload};
 
-use crate::event::{Claim, Event};
+use crate::event::Event;
 use lemma_proof::{Line, WindowOverload};
-use network::Lag;
+use network::{Lag, Verdict};
 
 /// What a slot, an activity, a resource or a count is below.
 const INDEX_LIMIT: usize = 1_152_921_504_606_846_976;
@@ -123,13 +123,13 @@ fn are_amounts(starts: &[i64]) -> bool
 }
 
 /// Whether the numbers of a claim are within the limits.
-fn is_writable_claim(claim: &Claim) -> bool
+fn is_writable_claim(claim: &Verdict) -> bool
     ensures { IsTrue result ↔ IsWritableClaim claim.now }
 {
     match claim {
-        Claim::Optimal { makespan } => is_amount(*makespan),
-        Claim::Bound { bound } => is_amount(*bound),
-        Claim::NoSchedule => true,
+        Verdict::Optimal { makespan } => is_amount(*makespan),
+        Verdict::Bound { bound } => is_amount(*bound),
+        Verdict::NoSchedule => true,
     }
 }
 

@@ -3,27 +3,28 @@
 ghost use Rattle.std.specs.Prelude.{◌≡◌, ◌<◌, ◌^◌, ◌++◌, length, IfOk, OnOk, OnErr};
 ghost use Rattle.lemma_log.specs.Text.{claim_text, body_text, event_text};
 
-use crate::event::{Claim, Event};
+use crate::event::Event;
 use crate::line::put_lines;
 use crate::lists::{put_arcs, put_starts};
 use crate::number::put_number;
 use crate::signed::put_signed;
+use network::Verdict;
 use std::alloc::{AllocError, Global};
 
 /// Writes what is proved.
-fn put_claim(bytes: &mut Vec<u8>, claim: &Claim) -> Result<(), AllocError>
+fn put_claim(bytes: &mut Vec<u8>, claim: &Verdict) -> Result<(), AllocError>
     ensures { OnOk result (bytes.new.items ≡ bytes.old.items ++ claim_text claim.now) }
 {
     match claim {
-        Claim::Optimal { makespan } => {
+        Verdict::Optimal { makespan } => {
             put_number(bytes, 3)?;
             put_signed(bytes, *makespan as i128)
         }
-        Claim::Bound { bound } => {
+        Verdict::Bound { bound } => {
             put_number(bytes, 7)?;
             put_signed(bytes, *bound as i128)
         }
-        Claim::NoSchedule => put_number(bytes, 11),
+        Verdict::NoSchedule => put_number(bytes, 11),
     }
 }
 

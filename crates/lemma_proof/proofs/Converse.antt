@@ -66,7 +66,8 @@ greatest_back own a b (Some g) h = (
       omega (arith, ints),
 )
 
-pub matrix_back : (n : ℕ) (own : List Lag) (rows columns : Rows) → length rows ≡ n → IsSquare n columns → AreConverse rows columns → IsMatrixOf n own rows → IsMatrixOf n (converses own) columns
+pub matrix_back : (n : ℕ) (own : List Lag) (rows columns : Rows) → length rows ≡ n → IsSquare n columns
+    → AreConverse rows columns → IsMatrixOf n own rows → IsMatrixOf n (converses own) columns
 matrix_back n own rows columns long square c m = record {
   inside = λ e there. let ends = m.inside (converse_of e) (converse_there own e there) in (ends.1, ends.0);
   square = (square.rows_long, square.columns_long);
@@ -98,7 +99,8 @@ both_back own more others part e there = elim (Contains-append_cases (converses 
   | inr second ↦ Contains-append_right own more (converse_of e) (part e second)
 ]
 
-pub reached_back : (rows columns : Rows) (more others : List Lag) (s : List ℤ) → IsSquare (length rows) columns → AreConverse rows columns → GoesBack others more →
+pub reached_back : (rows columns : Rows) (more others : List Lag) (s : List ℤ) → IsSquare (length rows) columns
+    → AreConverse rows columns → GoesBack others more →
     AreReached (length columns) columns others s → AreReaching (length rows) rows more s
 reached_back rows columns more others s square c part reached i li own m =
     let there : IsMatrixOf (length rows) (converses own) columns = matrix_back (length rows) own rows columns refl square c m in

@@ -1,5 +1,6 @@
 -- The two halves of a block: heads and tails, and what they tell.
-use Rattle.std.proofs.Common.{◌≡◌, refl, sym, ◌∙◌, ap, subst, ℕ, ◌<◌, arith, ℤ, pos, ◌+ℤ◌, ◌≤ℤ◌, ◌<ℤ◌, Bool, true, false, List, [], ◌∷◌, ◌++◌, length, Option, None, Some, inl, inr, ◌⊎◌}
+use Rattle.std.proofs.Common.{◌≡◌, refl, sym, ◌∙◌, ap, subst, ℕ, ◌<◌, arith, ℤ, pos, ◌+ℤ◌, ◌≤ℤ◌, ◌<ℤ◌, Bool, true, false, List, [], ◌∷◌, ◌++◌, length, Option}
+use Rattle.std.proofs.Common.{None, Some, inl, inr, ◌⊎◌}
 use Rattle.std.specs.List.{Contains}
 use Rattle.std.specs.Bool.{MatchBool}
 use Rattle.std.specs.Option.{unwrap_or}
@@ -22,7 +23,8 @@ use Rattle.lemma_proof.specs.Implied.{Implies, AreReached}
 use Rattle.lemma_proof.specs.Heads.{HeadsOf, IsLight, IsTable, IsRowAt}
 use Rattle.lemma_proof.specs.Rising.{AreAmong, AreThereAndBack, HaveRisen, IsLate, IsRisenBy, MeetEach}
 use Rattle.lemma_proof.specs.Block.{converse_of, AreEnds, AreReaching, IsBlock, IsToldOf, told_by}
-use Rattle.lemma_proof.specs.Halves.{AreConverse, AreHalves, AreLate, AreMet, AreRaised, AreRooted, AreToldBoth, AreTried, HaveBothRisen, IsCovered, IsListed, MayList, block_of, converses}
+use Rattle.lemma_proof.specs.Halves.{AreConverse, AreHalves, AreLate, AreMet, AreRaised, AreRooted, AreToldBoth, AreTried, HaveBothRisen, IsCovered, IsListed}
+use Rattle.lemma_proof.specs.Halves.{MayList, block_of, converses}
 use Rattle.lemma_proof.proofs.Converse.{converse_back, converse_there, reached_back}
 use Rattle.lemma_proof.proofs.Implying.{implied_part, implied_entry, implied_arc, implied_joined}
 use Rattle.lemma_proof.proofs.Rising.{at_home, there_small}
@@ -33,7 +35,8 @@ use Rattle.lemma_proof.proofs.Rooting.{table_over}
 pub converse_square : (rows columns : Rows) → AreConverse rows columns → IsTable columns → IsSquare (length rows) columns
 converse_square rows columns c t = let P : ℕ → Type 0 = λ n. IsSquare n columns in subst P c.long (square_of columns t.matrix)
 
-pub other_way : (rows columns : Rows) (there back : List ℤ) → AreConverse rows columns → IsTable columns → AreThereAndBack rows there back → AreThereAndBack columns back there
+pub other_way : (rows columns : Rows) (there back : List ℤ) → AreConverse rows columns → IsTable columns → AreThereAndBack rows there back
+    → AreThereAndBack columns back there
 other_way rows columns there back c t both = record {
   long = both.back_long ∙ sym c.long;
   back_long = both.long ∙ sym c.long;
@@ -56,16 +59,21 @@ converse_light rows columns e c light = record { from_activity = rw c.long light
 pub among_converses : (arcs all : List Lag) → AreAmong arcs all → AreAmong (converses arcs) (converses all)
 among_converses arcs all among e c = converse_back all (converse_of e) (among (converse_of e) (converse_there arcs e c))
 
-pub reached_among : (rows : Rows) (arcs all : List Lag) (s : List ℤ) → AreAmong arcs all → AreReached (length rows) rows arcs s → AreReached (length rows) rows all s
-reached_among rows arcs all s among reached i li own m = implied_part (own ++ arcs) (own ++ all) (arc_of 0 i (start s i)) (λ e c. elim (Contains-append_cases own arcs e c) [
-  | inl first ↦ Contains-append_left own all e first
-  | inr second ↦ Contains-append_right own all e (among e second)
-]) (reached i li own m)
+pub reached_among : (rows : Rows) (arcs all : List Lag) (s : List ℤ) → AreAmong arcs all → AreReached (length rows) rows arcs s
+    → AreReached (length rows) rows all s
+reached_among rows arcs all s among reached i li own m =
+    implied_part (own ++ arcs) (own ++ all) (arc_of 0 i (start s i)) (λ e c. elim (Contains-append_cases own arcs e c) [
+      | inl first ↦ Contains-append_left own all e first
+      | inr second ↦ Contains-append_right own all e (among e second)
+    ]) (reached i li own m)
 
-pub reaching_back : (rows columns : Rows) (more : List Lag) (s : List ℤ) → AreConverse rows columns → IsTable columns → AreReached (length columns) columns (converses more) s → AreReaching (length rows) rows more s
-reaching_back rows columns more s c t reached = reached_back rows columns more (converses more) s (converse_square rows columns c t) c (converse_there more) reached
+pub reaching_back : (rows columns : Rows) (more : List Lag) (s : List ℤ) → AreConverse rows columns → IsTable columns
+    → AreReached (length columns) columns (converses more) s → AreReaching (length rows) rows more s
+reaching_back rows columns more s c t reached = reached_back rows columns more (converses more) s (converse_square rows columns c t) c (converse_there more)
+    reached
 
-pub tails_small : (rows columns : Rows) (there back : List ℤ) → AreConverse rows columns → IsTable columns → AreThereAndBack rows there back → (i : ℕ) → i < length rows → IsWithin MAX_WALK_WEIGHT (start back i)
+pub tails_small : (rows columns : Rows) (there back : List ℤ) → AreConverse rows columns → IsTable columns → AreThereAndBack rows there back → (i : ℕ)
+    → i < length rows → IsWithin MAX_WALK_WEIGHT (start back i)
 tails_small rows columns there back c t both i li = there_small columns back there t (other_way rows columns there back c t both) i (rw c.long li)
 
 -- ---- what heads and tails tell
@@ -73,7 +81,8 @@ tails_small rows columns there back c t both i li = there_small columns back the
 start_low : (rows : Rows) (there back : List ℤ) → IsTable rows → AreThereAndBack rows there back → start there 0 ≤ℤ pos 0
 start_low rows there back t both = let k = both.closed 0 t.some in omega (arith, ints, k, both.back_low)
 
-covered_met : (x y : HeadsOf) (e : Lag) → IsTable x.rows → AreThereAndBack x.rows x.heads y.heads → MeetEach x.arcs x.heads → IsLight (length x.rows) e → IsCovered x y e → Meets x.heads e
+covered_met : (x y : HeadsOf) (e : Lag) → IsTable x.rows → AreThereAndBack x.rows x.heads y.heads → MeetEach x.arcs x.heads → IsLight (length x.rows) e
+    → IsCovered x y e → Meets x.heads e
 covered_met x y e t both between light covered = elim covered [
   | inl listed ↦ between e listed
   | inr touches ↦ by touches
@@ -88,7 +97,8 @@ covered_met x y e t both between light covered = elim covered [
         let last : pos 0 ≤ℤ start x.heads e.to = rw is both.low in
         omega (arith, ints, round, last, low)
 
-all_met : (more : List Lag) (x y : HeadsOf) → IsTable x.rows → AreHalves more x y true → (own : List Lag) → IsMatrixOf (length x.rows) own x.rows → (e : Lag) → Contains (own ++ more) e → Meets x.heads e
+all_met : (more : List Lag) (x y : HeadsOf) → IsTable x.rows → AreHalves more x y true → (own : List Lag) → IsMatrixOf (length x.rows) own x.rows → (e : Lag)
+    → Contains (own ++ more) e → Meets x.heads e
 all_met more x y h halves own m e c = elim (Contains-append_cases own more e c) [
   | inl first ↦
       let ends = m.inside e first in
@@ -99,19 +109,24 @@ all_met more x y h halves own m e c = elim (Contains-append_cases own more e c) 
   | inr second ↦ covered_met x y e h halves.both halves.met.between (halves.light e second) (halves.met.covered e second)
 ]
 
-pub live_told : (more : List Lag) (x y : HeadsOf) → IsTable x.rows → AreHalves more x y true → (own : List Lag) → IsMatrixOf (length x.rows) own x.rows → HasNoPositiveCycle (own ++ more)
+pub live_told : (more : List Lag) (x y : HeadsOf) → IsTable x.rows → AreHalves more x y true → (own : List Lag) → IsMatrixOf (length x.rows) own x.rows
+    → HasNoPositiveCycle (own ++ more)
 live_told more x y h halves own m a es w =
     let round : (start x.heads a +ℤ weight es) ≤ℤ start x.heads a = walk_holds (own ++ more) x.heads (all_met more x y h halves own m) a a es w in
     omega (arith, ints)
 
 -- a way from 0 over one of the arcs and back that weighs more than 0
-cycle_there : (more : List Lag) (x y : HeadsOf) (settled : Bool) (e : Lag) → IsTable y.rows → AreHalves more x y settled → Contains more e → pos 0 <ℤ ((start x.heads e.from +ℤ e.weight) +ℤ start y.heads e.to) → (own : List Lag) → IsMatrixOf (length x.rows) own x.rows → HasPositiveCycle (own ++ more)
+cycle_there : (more : List Lag) (x y : HeadsOf) (settled : Bool) (e : Lag) → IsTable y.rows → AreHalves more x y settled → Contains more e
+    → pos 0 <ℤ ((start x.heads e.from +ℤ e.weight) +ℤ start y.heads e.to) → (own : List Lag) → IsMatrixOf (length x.rows) own x.rows
+    → HasPositiveCycle (own ++ more)
 cycle_there more x y settled e k halves there above own m =
     let light = halves.light e there in
     let first : Implies (own ++ more) (arc_of 0 e.from (start x.heads e.from)) = halves.reached e.from light.from_activity own m in
     let over : Implies (own ++ more) (arc_of e.from e.to e.weight) = implied_arc (own ++ more) e (Contains-append_right own more e there) in
-    let last : Implies (own ++ more) (arc_of e.to 0 (start y.heads e.to)) = reaching_back x.rows y.rows more y.heads halves.converse k halves.reaching e.to light.to_activity own m in
-    let round = implied_joined (own ++ more) 0 e.to 0 (start x.heads e.from +ℤ e.weight) (start y.heads e.to) (implied_joined (own ++ more) 0 e.from e.to (start x.heads e.from) e.weight first over) last in
+    let last : Implies (own ++ more) (arc_of e.to 0 (start y.heads e.to)) =
+    reaching_back x.rows y.rows more y.heads halves.converse k halves.reaching e.to light.to_activity own m in
+    let round = implied_joined (own ++ more) 0 e.to 0 (start x.heads e.from +ℤ e.weight) (start y.heads e.to)
+    (implied_joined (own ++ more) 0 e.from e.to (start x.heads e.from) e.weight first over) last in
     let high : ((start x.heads e.from +ℤ e.weight) +ℤ start y.heads e.to) ≤ℤ weight round.walk = round.weighs in
     (0, round.walk, record { closed = round.goes; positive = omega (arith, ints, above) })
 
@@ -126,7 +141,8 @@ is_block more x y settled halves h k = record {
 
 -- ---- with no arc beside the matrix
 
-pub first_both : (rows columns : Rows) (heads tails : List ℤ) → IsTable rows → AreConverse rows columns → IsRowAt rows 0 heads → IsRowAt columns 0 tails → AreThereAndBack rows heads tails
+pub first_both : (rows columns : Rows) (heads tails : List ℤ) → IsTable rows → AreConverse rows columns → IsRowAt rows 0 heads → IsRowAt columns 0 tails
+    → AreThereAndBack rows heads tails
 first_both rows columns heads tails t c one two =
     let column : (b : ℕ) → b < length rows → entry rows b 0 ≡ Some (start tails b) = λ b lb. sym (c.entries b 0 lb t.some) ∙ two.says b (rw c.long lb) in
     record {
@@ -149,7 +165,8 @@ first_both rows columns heads tails t c one two =
       closed = λ i li.
           let through = transitive (length rows) t.matrix.arcs rows t.matrix.matrix 0 i 0 (start heads i) (start tails i) (one.says i li) (column i li) in
           let on : (start heads i +ℤ start tails i) ≤ℤ through.0 = through.2 in
-          let round : Implies t.matrix.arcs (arc_of 0 0 through.0) = implied_entry (length rows) t.matrix.arcs rows 0 0 through.0 t.matrix.matrix t.some t.some through.1 in
+          let round : Implies t.matrix.arcs (arc_of 0 0 through.0) =
+          implied_entry (length rows) t.matrix.arcs rows 0 0 through.0 t.matrix.matrix t.some t.some through.1 in
           let high : through.0 ≤ℤ weight round.walk = round.weighs in
           let low : weight round.walk ≤ℤ pos 0 = t.matrix.matrix.no_cycle 0 round.walk round.goes in
           omega (arith, ints, on, high, low);
@@ -164,12 +181,14 @@ first_both rows columns heads tails t c one two =
 
 pub first_reached : (rows : Rows) (more : List Lag) (heads : List ℤ) → IsTable rows → IsRowAt rows 0 heads → AreReached (length rows) rows more heads
 first_reached rows more heads t one i li own m =
-    implied_part own (own ++ more) (arc_of 0 i (start heads i)) (λ f d. Contains-append_left own more f d) (implied_entry (length rows) own rows 0 i (start heads i) m t.some li (one.says i li))
+    implied_part own (own ++ more) (arc_of 0 i (start heads i)) (λ f d. Contains-append_left own more f d)
+    (implied_entry (length rows) own rows 0 i (start heads i) m t.some li (one.says i li))
 
 none_in : (P : Lag → Type 0) (e : Lag) → Contains [] e → P e
 none_in P e c = absurd (omega (arith, c.1))
 
-pub first_halves : (x y : HeadsOf) → AreConverse x.rows y.rows → IsTable x.rows → IsTable y.rows → x.arcs ≡ [] → y.arcs ≡ [] → IsRowAt x.rows 0 x.heads → IsRowAt y.rows 0 y.heads → AreThereAndBack x.rows x.tried y.tried → AreHalves [] x y true
+pub first_halves : (x y : HeadsOf) → AreConverse x.rows y.rows → IsTable x.rows → IsTable y.rows → x.arcs ≡ [] → y.arcs ≡ [] → IsRowAt x.rows 0 x.heads
+    → IsRowAt y.rows 0 y.heads → AreThereAndBack x.rows x.tried y.tried → AreHalves [] x y true
 first_halves x y c t u none back_none one two tried = record {
   converse = c;
   light = none_in (IsLight (length x.rows));
@@ -184,7 +203,8 @@ first_halves x y c t u none back_none one two tried = record {
 
 -- ---- an arc more
 
-more_light : (n : ℕ) (more : List Lag) (e : Lag) → ((f : Lag) → Contains more f → IsLight n f) → IsLight n e → (f : Lag) → Contains (more ++ e ∷ []) f → IsLight n f
+more_light : (n : ℕ) (more : List Lag) (e : Lag) → ((f : Lag) → Contains more f → IsLight n f) → IsLight n e → (f : Lag) → Contains (more ++ e ∷ []) f
+    → IsLight n f
 more_light n more e before light f c = elim (Contains-push_cases more e f c) [ inl old ↦ before f old | inr is ↦ subst (IsLight n) is light ]
 
 newest : (more : List Lag) (e : Lag) → Contains (more ++ e ∷ []) e
@@ -204,7 +224,8 @@ unsettled more x y settled h = record {
 }
 
 -- an arc beside the matrix that the halves may list
-pub listed_halves : (more : List Lag) (x y x' y' : HeadsOf) (e : Lag) (settled : Bool) → AreHalves more x y settled → IsLight (length x.rows) e → MayList e x x' → MayList (converse_of e) y y' → AreHalves (more ++ e ∷ []) x' y' false
+pub listed_halves : (more : List Lag) (x y x' y' : HeadsOf) (e : Lag) (settled : Bool) → AreHalves more x y settled → IsLight (length x.rows) e
+    → MayList e x x' → MayList (converse_of e) y y' → AreHalves (more ++ e ∷ []) x' y' false
 listed_halves more x y x' y' e settled h light one two =
     rw (one.same, two.same)
     (record {
@@ -221,7 +242,8 @@ listed_halves more x y x' y' e settled h light one two =
       both = h.both;
       tried = h.tried;
       reached = reached_among x.rows more (more ++ e ∷ []) x.heads (λ g d. Contains-append_left more (e ∷ []) g d) h.reached;
-      reaching = reached_among y.rows (converses more) (converses (more ++ e ∷ [])) y.heads (among_converses more (more ++ e ∷ []) (λ g d. Contains-append_left more (e ∷ []) g d)) h.reaching;
+      reaching = reached_among y.rows (converses more) (converses (more ++ e ∷ [])) y.heads
+          (among_converses more (more ++ e ∷ []) (λ g d. Contains-append_left more (e ∷ []) g d)) h.reaching;
       met = record {};
     })
 
@@ -232,7 +254,8 @@ among_both e arcs all there among f c = elim (Contains-append_cases (e ∷ []) a
 ]
 
 -- and by which they rise
-pub risen_halves : (more : List Lag) (x y x' y' : HeadsOf) (e : Lag) → AreHalves more x y false → Contains more e → HaveBothRisen e x y x' y' → AreHalves more x' y' false
+pub risen_halves : (more : List Lag) (x y x' y' : HeadsOf) (e : Lag) → AreHalves more x y false → Contains more e → HaveBothRisen e x y x' y'
+    → AreHalves more x' y' false
 risen_halves more x y x' y' e h there risen =
     rw (risen.heads, risen.tails)
     (record {
@@ -247,14 +270,16 @@ risen_halves more x y x' y' e h there risen =
       met = record {};
     })
 
-met_before : (more : List Lag) (x y x' : HeadsOf) (e : Lag) → AreHalves more x y true → MayList e x x' → (f : Lag) → Contains x'.arcs f → Meets x'.heads f ⊎ (e ≡ f)
+met_before : (more : List Lag) (x y x' : HeadsOf) (e : Lag) → AreHalves more x y true → MayList e x x' → (f : Lag) → Contains x'.arcs f → Meets x'.heads f
+    ⊎ (e ≡ f)
 met_before more x y x' e h one f c = elim (one.only f c) [
   | inl old ↦ inl (rw one.same (h.met.between f old))
   | inr is ↦ inr is
 ]
 
 -- heads and tails that met all arcs before meet one more that they rose by
-pub met_more : (more : List Lag) (x y x' y' x'' y'' : HeadsOf) (e : Lag) → IsLight (length x.rows) e → AreHalves more x y true → MayList e x x' → MayList (converse_of e) y y' → IsListed e x'.arcs → HaveBothRisen e x' y' x'' y'' → AreRaised e x' y' x'' y'' true → AreMet (more ++ e ∷ []) x'' y''
+pub met_more : (more : List Lag) (x y x' y' x'' y'' : HeadsOf) (e : Lag) → IsLight (length x.rows) e → AreHalves more x y true → MayList e x x'
+    → MayList (converse_of e) y y' → IsListed e x'.arcs → HaveBothRisen e x' y' x'' y'' → AreRaised e x' y' x'' y'' true → AreMet (more ++ e ∷ []) x'' y''
 met_more more x y x' y' x'' y'' e light h one two listed risen raised = record {
   between = λ f c. raised.met (met_before more x y x' e h one) f (rw arcs at c);
   covered = λ f c. elim (Contains-push_cases more e f c) [
@@ -302,11 +327,14 @@ settled_halves more x y h met = record {
   met = met;
 }
 
-late_among : (more : List Lag) (x y : HeadsOf) (e f : Lag) → AreHalves more x y false → Contains more e → Contains (e ∷ x.arcs) f ⊎ Contains (converse_of e ∷ y.arcs) (converse_of f) → Contains more f
+late_among : (more : List Lag) (x y : HeadsOf) (e f : Lag) → AreHalves more x y false → Contains more e → Contains (e ∷ x.arcs) f
+    ⊎ Contains (converse_of e ∷ y.arcs) (converse_of f) → Contains more f
 late_among more x y e f h there (inl c) = among_both e x.arcs more there h.part f c
-late_among more x y e f h there (inr c) = converse_there more (converse_of f) (among_both (converse_of e) y.arcs (converses more) (converse_back more e there) h.back_part (converse_of f) c)
+late_among more x y e f h there (inr c) = converse_there more (converse_of f)
+    (among_both (converse_of e) y.arcs (converses more) (converse_back more e there) h.back_part (converse_of f) c)
 
-pub late_told : (more : List Lag) (x y x' y' : HeadsOf) (e : Lag) → IsTable y.rows → AreHalves more x y false → Contains more e → HaveBothRisen e x y x' y' → AreLate e x y x' y' → (own : List Lag) → IsMatrixOf (length x'.rows) own x'.rows → HasPositiveCycle (own ++ more)
+pub late_told : (more : List Lag) (x y x' y' : HeadsOf) (e : Lag) → IsTable y.rows → AreHalves more x y false → Contains more e → HaveBothRisen e x y x' y'
+    → AreLate e x y x' y' → (own : List Lag) → IsMatrixOf (length x'.rows) own x'.rows → HasPositiveCycle (own ++ more)
 late_told more x y x' y' e t h there risen late own m =
     let k = risen_halves more x y x' y' e h there risen in
     let u : IsTable y'.rows = rw risen.tails t in
@@ -314,7 +342,8 @@ late_told more x y x' y' e t h there risen late own m =
 
 -- ---- a trial
 
-pub tried_halves : (more : List Lag) (x y x' y' : HeadsOf) (e : Lag) (settled : Bool) → AreHalves more x y settled → AreTried e x y x' y' → AreHalves more x' y' settled
+pub tried_halves : (more : List Lag) (x y x' y' : HeadsOf) (e : Lag) (settled : Bool) → AreHalves more x y settled → AreTried e x y x' y'
+    → AreHalves more x' y' settled
 tried_halves more x y x' y' e settled h tried =
     rw (tried.heads, tried.tails)
     (record {
@@ -329,17 +358,22 @@ tried_halves more x y x' y' e settled h tried =
       met = by settled h.met;
     })
   where
-    by : (b : Bool) → MatchBool b (AreMet more x y) (Unit {0}) → MatchBool b (AreMet more (record x { tried = x'.tried }) (record y { tried = y'.tried })) (Unit {0})
+    by : (b : Bool) → MatchBool b (AreMet more x y) (Unit {0})
+        → MatchBool b (AreMet more (record x { tried = x'.tried }) (record y { tried = y'.tried })) (Unit {0})
     by true m = record { between = m.between; covered = m.covered }
     by false m = m
 
-pub tried_ends : (more : List Lag) (x y x' y' : HeadsOf) (e : Lag) (settled : Bool) → IsTable y.rows → AreHalves more x y settled → AreTried e x y x' y' → AreEnds x.rows (more ++ e ∷ []) x'.tried y'.tried
+pub tried_ends : (more : List Lag) (x y x' y' : HeadsOf) (e : Lag) (settled : Bool) → IsTable y.rows → AreHalves more x y settled → AreTried e x y x' y'
+    → AreEnds x.rows (more ++ e ∷ []) x'.tried y'.tried
 tried_ends more x y x' y' e settled t h tried =
     let all : List Lag = more ++ e ∷ [] in
     let before : AreAmong more (more ++ e ∷ []) = λ f c. Contains-append_left more (e ∷ []) f c in
-    let reached = tried.reached (more ++ e ∷ []) (among_both e x.arcs (more ++ e ∷ []) (newest more e) (λ f c. before f (h.part f c))) (reached_among x.rows more (more ++ e ∷ []) x.heads before h.reached) in
+    let reached = tried.reached (more ++ e ∷ []) (among_both e x.arcs (more ++ e ∷ []) (newest more e) (λ f c. before f (h.part f c)))
+    (reached_among x.rows more (more ++ e ∷ []) x.heads before h.reached) in
     let back = among_converses more (more ++ e ∷ []) before in
-    let reaching = tried.reaching (converses (more ++ e ∷ [])) (among_both (converse_of e) y.arcs (converses (more ++ e ∷ [])) (converse_back (more ++ e ∷ []) e (newest more e)) (λ f c. back f (h.back_part f c))) (reached_among y.rows (converses more) (converses (more ++ e ∷ [])) y.heads back h.reaching) in
+    let reaching = tried.reaching (converses (more ++ e ∷ []))
+    (among_both (converse_of e) y.arcs (converses (more ++ e ∷ [])) (converse_back (more ++ e ∷ []) e (newest more e)) (λ f c. back f (h.back_part f c)))
+    (reached_among y.rows (converses more) (converses (more ++ e ∷ [])) y.heads back h.reaching) in
     record { reached = reached; reaching = reaching_back x.rows y.rows (more ++ e ∷ []) y'.tried h.converse t reaching }
 
 -- ---- both halves after one rise each
@@ -347,10 +381,13 @@ tried_ends more x y x' y' e settled t h tried =
 converse_sym : (rows columns : Rows) → AreConverse rows columns → AreConverse columns rows
 converse_sym rows columns c = record { long = sym c.long; entries = λ a b la lb. sym (c.entries b a (rw c.long at lb) (rw c.long at la)) }
 
-pub heads_risen : (e : Lag) (x y x' : HeadsOf) → x' ≡ record x { heads = x'.heads } → HaveRisen x.rows (e ∷ x.arcs) y.heads x.heads x'.heads → HaveBothRisen e x y x' y
+pub heads_risen : (e : Lag) (x y x' : HeadsOf) → x' ≡ record x { heads = x'.heads } → HaveRisen x.rows (e ∷ x.arcs) y.heads x.heads x'.heads
+    → HaveBothRisen e x y x' y
 heads_risen e x y x' same h = record { heads = same; tails = refl; both = h.both; reached = h.reached; reaching = λ all among r. r }
 
-pub both_risen : (e : Lag) (x y x' y' : HeadsOf) → AreConverse x.rows y.rows → IsTable x.rows → x' ≡ record x { heads = x'.heads } → y' ≡ record y { heads = y'.heads } → HaveRisen x.rows (e ∷ x.arcs) y.heads x.heads x'.heads → HaveRisen y.rows (converse_of e ∷ y.arcs) x'.heads y.heads y'.heads → HaveBothRisen e x y x' y'
+pub both_risen : (e : Lag) (x y x' y' : HeadsOf) → AreConverse x.rows y.rows → IsTable x.rows → x' ≡ record x { heads = x'.heads }
+    → y' ≡ record y { heads = y'.heads } → HaveRisen x.rows (e ∷ x.arcs) y.heads x.heads x'.heads
+    → HaveRisen y.rows (converse_of e ∷ y.arcs) x'.heads y.heads y'.heads → HaveBothRisen e x y x' y'
 both_risen e x y x' y' c t same back_same h k = record {
   heads = same;
   tails = back_same;
@@ -365,7 +402,10 @@ heads_late e x y x' late = record { arc = late.arc; among = inl late.among; abov
 pub tails_late : (e : Lag) (x y x' y' : HeadsOf) → IsLate (converse_of e ∷ y.arcs) y'.heads x'.heads → AreLate e x y x' y'
 tails_late e x y x' y' late = record { arc = converse_of late.arc; among = inr late.among; above = let k = late.above in omega (arith, ints, k) }
 
-pub both_raised : (e : Lag) (x y x' y' : HeadsOf) (first second settled : Bool) → AreConverse x.rows y.rows → HaveRisen x.rows (e ∷ x.arcs) y.heads x.heads x'.heads → HaveRisen y.rows (converse_of e ∷ y.arcs) x'.heads y.heads y'.heads → IsRisenBy e x.arcs y.heads x.heads x'.heads (Some first) → IsRisenBy (converse_of e) y.arcs x'.heads y.heads y'.heads (Some second) → (settled ≡ true → first ≡ true) → AreRaised e x y x' y' settled
+pub both_raised : (e : Lag) (x y x' y' : HeadsOf) (first second settled : Bool) → AreConverse x.rows y.rows
+    → HaveRisen x.rows (e ∷ x.arcs) y.heads x.heads x'.heads → HaveRisen y.rows (converse_of e ∷ y.arcs) x'.heads y.heads y'.heads
+    → IsRisenBy e x.arcs y.heads x.heads x'.heads (Some first) → IsRisenBy (converse_of e) y.arcs x'.heads y.heads y'.heads (Some second)
+    → (settled ≡ true → first ≡ true) → AreRaised e x y x' y' settled
 both_raised e x y x' y' first second settled c h k told back_told both = record {
   over = told.0;
   back_over = back_told.0;
@@ -377,14 +417,17 @@ both_raised e x y x' y' first second settled c h k told back_told both = record 
     met : first ≡ true → ((f : Lag) → Contains x.arcs f → Meets x.heads f ⊎ (e ≡ f)) → MeetEach x.arcs x'.heads
     met is = rw is at told.1
 
-    by : (b : Bool) → (b ≡ true → first ≡ true) → MatchBool b (((f : Lag) → Contains x.arcs f → Meets x.heads f ⊎ (e ≡ f)) → MeetEach x.arcs x'.heads) (Unit {0})
+    by : (b : Bool) → (b ≡ true → first ≡ true) → MatchBool b (((f : Lag) → Contains x.arcs f → Meets x.heads f ⊎ (e ≡ f)) → MeetEach x.arcs x'.heads)
+        (Unit {0})
     by true is = met (is refl)
     by false is = tt
 
 still_tried : (x b z : HeadsOf) → b ≡ record x { tried = x.heads } → z ≡ record b { tried = z.tried } → z ≡ record x { tried = z.tried }
 still_tried x b z first next = next ∙ ap (λ (h : HeadsOf). record h { tried = z.tried }) first
 
-pub both_tried : (e : Lag) (x y b d x' y' : HeadsOf) → AreConverse x.rows y.rows → IsTable x.rows → b ≡ record x { tried = x.heads } → d ≡ record y { tried = y.heads } → x' ≡ record b { tried = x'.tried } → y' ≡ record d { tried = y'.tried } → HaveRisen x.rows (e ∷ x.arcs) y.heads x.heads x'.tried → HaveRisen y.rows (converse_of e ∷ y.arcs) x'.tried y.heads y'.tried → AreTried e x y x' y'
+pub both_tried : (e : Lag) (x y b d x' y' : HeadsOf) → AreConverse x.rows y.rows → IsTable x.rows → b ≡ record x { tried = x.heads }
+    → d ≡ record y { tried = y.heads } → x' ≡ record b { tried = x'.tried } → y' ≡ record d { tried = y'.tried }
+    → HaveRisen x.rows (e ∷ x.arcs) y.heads x.heads x'.tried → HaveRisen y.rows (converse_of e ∷ y.arcs) x'.tried y.heads y'.tried → AreTried e x y x' y'
 both_tried e x y b d x' y' c t begun back_begun same back_same h k = record {
   heads = still_tried x b x' begun same;
   tails = still_tried y d y' back_begun back_same;
@@ -395,14 +438,19 @@ both_tried e x y b d x' y' c t begun back_begun same back_same h k = record {
 
 -- ---- a block that begins anew, and one with an arc more
 
-pub begun_halves : (more : List Lag) (x y x' y' : HeadsOf) (settled : Bool) → AreHalves more x y settled → IsTable x.rows → IsTable y.rows → x' ≡ record x { arcs = []; heads = x'.heads } → y' ≡ record y { arcs = []; heads = y'.heads } → IsRowAt x.rows 0 x'.heads → IsRowAt y.rows 0 y'.heads → AreHalves [] x' y' true
+pub begun_halves : (more : List Lag) (x y x' y' : HeadsOf) (settled : Bool) → AreHalves more x y settled → IsTable x.rows → IsTable y.rows
+    → x' ≡ record x { arcs = []; heads = x'.heads } → y' ≡ record y { arcs = []; heads = y'.heads } → IsRowAt x.rows 0 x'.heads → IsRowAt y.rows 0 y'.heads
+    → AreHalves [] x' y' true
 begun_halves more x y x' y' settled h t u same back_same one two =
     let begun : HeadsOf = record x { arcs = []; heads = x'.heads } in
     let back : HeadsOf = record y { arcs = []; heads = y'.heads } in
-    subst (λ (a : HeadsOf). AreHalves [] a y' true) (sym same) (subst (λ (a : HeadsOf). AreHalves [] (record x { arcs = []; heads = x'.heads }) a true) (sym back_same)
+    subst (λ (a : HeadsOf). AreHalves [] a y' true) (sym same)
+    (subst (λ (a : HeadsOf). AreHalves [] (record x { arcs = []; heads = x'.heads }) a true) (sym back_same)
     (first_halves begun back h.converse t u refl refl one two h.tried))
 
-pub told_halves : (more : List Lag) (x y x' y' x'' y'' : HeadsOf) (e : Lag) (told : Option Bool) → IsLight (length x.rows) e → AreHalves more x y true → MayList e x x' → MayList (converse_of e) y y' → IsListed e x'.arcs → HaveBothRisen e x' y' x'' y'' → AreToldBoth e x' y' x'' y'' told → AreHalves (more ++ e ∷ []) x'' y'' (unwrap_or told false)
+pub told_halves : (more : List Lag) (x y x' y' x'' y'' : HeadsOf) (e : Lag) (told : Option Bool) → IsLight (length x.rows) e → AreHalves more x y true
+    → MayList e x x' → MayList (converse_of e) y y' → IsListed e x'.arcs → HaveBothRisen e x' y' x'' y'' → AreToldBoth e x' y' x'' y'' told
+    → AreHalves (more ++ e ∷ []) x'' y'' (unwrap_or told false)
 told_halves more x y x' y' x'' y'' e told light h one two listed risen by = by_told told by
   where
     here : AreHalves (more ++ e ∷ []) x'' y'' false
@@ -413,7 +461,9 @@ told_halves more x y x' y' x'' y'' e told light h one two listed risen by = by_t
     by_told (Some false) raised = here
     by_told (Some true) raised = settled_halves (more ++ e ∷ []) x'' y'' here (met_more more x y x' y' x'' y'' e light h one two listed risen raised)
 
-pub told_more : (more : List Lag) (x y x' y' x'' y'' : HeadsOf) (e : Lag) (told : Option Bool) → IsTable x.rows → IsTable y.rows → IsLight (length x.rows) e → AreHalves more x y true → MayList e x x' → MayList (converse_of e) y y' → IsListed e x'.arcs → HaveBothRisen e x' y' x'' y'' → AreToldBoth e x' y' x'' y'' told → IsToldOf (length x''.rows) x''.rows (more ++ e ∷ []) (told_by told)
+pub told_more : (more : List Lag) (x y x' y' x'' y'' : HeadsOf) (e : Lag) (told : Option Bool) → IsTable x.rows → IsTable y.rows → IsLight (length x.rows) e
+    → AreHalves more x y true → MayList e x x' → MayList (converse_of e) y y' → IsListed e x'.arcs → HaveBothRisen e x' y' x'' y''
+    → AreToldBoth e x' y' x'' y'' told → IsToldOf (length x''.rows) x''.rows (more ++ e ∷ []) (told_by told)
 told_more more x y x' y' x'' y'' e told t u light h one two listed risen by = by_told told by
   where
     table : IsTable x''.rows
@@ -426,44 +476,3 @@ told_more more x y x' y' x'' y'' e told t u light h one two listed risen by = by
     by_told None late = late_told (more ++ e ∷ []) x' y' x'' y'' e back_table (listed_halves more x y x' y' e true h light one two) (newest more e) risen late
     by_told (Some false) raised = tt
     by_told (Some true) raised = live_told (more ++ e ∷ []) x'' y'' table (told_halves more x y x' y' x'' y'' e (Some true) light h one two listed risen raised)
-
--- ---- an arc that the matrix takes
-
-pub converse_none : (rows columns : Rows) (e : Lag) → AreConverse rows columns → IsLight (length rows) e → ClosesNone e rows → ClosesNone (converse_of e) columns
-converse_none rows columns e c light none = λ x is. none x (sym (c.entries e.to e.from light.to_activity light.from_activity) ∙ is)
-
-same_over : (here from on w : ℤ) → greater (Some here) (Some ((on +ℤ w) +ℤ from)) ≡ greater (Some here) (Some ((from +ℤ w) +ℤ on))
-same_over here from on w =
-    let sums : ((on +ℤ w) +ℤ from) ≡ ((from +ℤ w) +ℤ on) = omega (arith, ints) in
-    ap (λ (z : ℤ). greater (Some here) (Some z)) sums
-
-converse_over : (rows columns : Rows) (e : Lag) → AreConverse rows columns → IsTable rows → IsLight (length rows) e → AreConverse (rows_over e rows) (rows_over (converse_of e) columns)
-converse_over rows columns e c t light = record {
-  long = length-rows_over (converse_of e) columns ∙ c.long ∙ sym (length-rows_over e rows);
-  entries = λ a b la lb.
-      let ra : a < length rows = rw (length-rows_over e rows) at la in
-      let rb : b < length rows = rw (length-rows_over e rows) at lb in
-      let here = t.full a b ra rb in
-      let from = t.full a e.from ra light.from_activity in
-      let on = t.full e.to b light.to_activity rb in
-      let first : entry (rows_over (converse_of e) columns) b a ≡ greater (Some here.0) (Some ((on.0 +ℤ e.weight) +ℤ from.0)) =
-      entry-rows_over (converse_of e) columns b a (rw c.long rb) (rw c.long ra)
-      ∙ rw (c.entries a b ra rb ∙ here.1, c.entries e.to b light.to_activity rb ∙ on.1, c.entries a e.from ra light.from_activity ∙ from.1) refl in
-      let last : entry (rows_over e rows) a b ≡ greater (Some here.0) (Some ((from.0 +ℤ e.weight) +ℤ on.0)) = entry-rows_over e rows a b ra rb ∙ rw (here.1, from.1, on.1) refl in
-      first ∙ same_over here.0 from.0 on.0 e.weight ∙ sym last;
-}
-
-pub rooted_halves : (e : Lag) (x y x' y' : HeadsOf) → AreConverse x.rows y.rows → IsTable x.rows → IsTable y.rows → IsLight (length x.rows) e → ClosesNone e x.rows → x' ≡ record { rows = rows_over e x.rows; arcs = []; heads = x'.heads; tried = x'.heads } → y' ≡ record { rows = rows_over (converse_of e) y.rows; arcs = []; heads = y'.heads; tried = y'.heads } → IsRowAt x'.rows 0 x'.heads → IsRowAt y'.rows 0 y'.heads → AreRooted e x x' y'
-rooted_halves e x y x' y' c t u light none same back_same one two =
-    let rows : x'.rows ≡ rows_over e x.rows = ap (λ (h : HeadsOf). h.rows) same in
-    let columns : y'.rows ≡ rows_over (converse_of e) y.rows = ap (λ (h : HeadsOf). h.rows) back_same in
-    let table : IsTable x'.rows = subst IsTable (sym rows) (table_over x.rows e t light none) in
-    let back_table : IsTable y'.rows = subst IsTable (sym columns) (table_over y.rows (converse_of e) u (converse_light x.rows y.rows e c light) (converse_none x.rows y.rows e c light none)) in
-    let converse : AreConverse x'.rows y'.rows = rw (rows, columns) (converse_over x.rows y.rows e c t light) in
-    let both = first_both x'.rows y'.rows x'.heads y'.heads table converse one two in
-    let tried : x'.tried ≡ x'.heads = ap (λ (h : HeadsOf). h.tried) same in
-    let back_tried : y'.tried ≡ y'.heads = ap (λ (h : HeadsOf). h.tried) back_same in
-    record {
-      rows = rows;
-      halves = first_halves x' y' converse table back_table (ap (λ (h : HeadsOf). h.arcs) same) (ap (λ (h : HeadsOf). h.arcs) back_same) one two (rw (tried, back_tried) both);
-    }

@@ -40,7 +40,8 @@ implied_joined arcs a b c x y i j =
 pub implied_arc : (arcs : List Lag) (e : Lag) → Contains arcs e → Implies arcs e
 implied_arc arcs e c = record { walk = e ∷ []; goes = (c, refl, refl); weighs = omega (arith, ints) }
 
-pub implied_entry : (n : ℕ) (arcs : List Lag) (rows : Rows) (a b : ℕ) (w : ℤ) → IsMatrixOf n arcs rows → a < n → b < n → entry rows a b ≡ Some w → Implies arcs (arc_of a b w)
+pub implied_entry : (n : ℕ) (arcs : List Lag) (rows : Rows) (a b : ℕ) (w : ℤ) → IsMatrixOf n arcs rows → a < n → b < n
+    → entry rows a b ≡ Some w → Implies arcs (arc_of a b w)
 implied_entry n arcs rows a b w m la lb is =
     let at : IsGreatestWeight arcs a b (Some w) = rw is at (m.greatest a b la lb) in
     let sum : weight at.0.0 ≡ w = at.0.2 in

@@ -14,6 +14,7 @@ pub mod Passing
 pub mod Rooting
 pub mod Converse
 pub mod Halves
+pub mod RootedHalves
 pub mod Blocks
 pub mod Existing
 pub mod Loops

@@ -1,5 +1,6 @@
 -- What a loop over a list that stops at the first element without a property knows.
-use Rattle.std.proofs.Common.{◌≡◌, refl, ◌+◌, ◌<◌, ◌≤◌, ◌⊎◌, inr, ⊎_elim, arith, Bool, ℕ, List, length, get_or, take, true, false, IsTrue, ◌↔◌, slice_index, sym, ◌∙◌}
+use Rattle.std.proofs.Common.{◌≡◌, refl, ◌+◌, ◌<◌, ◌≤◌, ◌⊎◌, inr, ⊎_elim, arith, Bool, ℕ, List, length, get_or, take}
+use Rattle.std.proofs.Common.{true, false, IsTrue, ◌↔◌, slice_index, sym, ◌∙◌}
 use Rattle.std.specs.List.{All, AllPairs}
 use Rattle.lemma_proof.specs.Reasons.{Tells}
 use Rattle.std.proofs.lemmas.List.{take_all, get_or-take, get_or_default, length-take-le}
@@ -28,7 +29,8 @@ third_decides first second third = record {
 }
 
 -- one of them hasn't it
-pub some_fails : {X : Type 0} {e : Bool} (P : X → Type 0) (xs : List X) (i : ℕ) (d : X) → i < length xs → (e ≡ true → ¬ P (get_or xs i d)) → Tells e false (All P xs)
+pub some_fails : {X : Type 0} {e : Bool} (P : X → Type 0) (xs : List X) (i : ℕ) (d : X) → i < length xs
+    → (e ≡ true → ¬ P (get_or xs i d)) → Tells e false (All P xs)
 some_fails P xs i d lt never = refused (All P xs) (λ exact all. never exact (all i d lt))
 
 -- all have it
@@ -41,7 +43,8 @@ none_fails P xs i past so_far = let all : All P xs = rw (take_all i xs past) at 
 abbrev pub BeforeAre : (ℕ → ℕ → Type 0) → List ℕ → ℕ → Type 0
 BeforeAre R xs n = (i j : ℕ) → i < j → j < n → R (slice_index xs i) (slice_index xs j)
 
-pub pairs_more : (R : ℕ → ℕ → Type 0) (xs : List ℕ) (n : ℕ) → n < length xs → BeforeAre R xs n → All (λ x. R x (slice_index xs n)) (take n xs) → BeforeAre R xs (n + 1)
+pub pairs_more : (R : ℕ → ℕ → Type 0) (xs : List ℕ) (n : ℕ) → n < length xs → BeforeAre R xs n
+    → All (λ x. R x (slice_index xs n)) (take n xs) → BeforeAre R xs (n + 1)
 pairs_more R xs n lt before here i j less low =
     ⊎_elim
     (λ (early : j < n). before i j less early)
@@ -54,7 +57,8 @@ pairs_more R xs n lt before here i j less low =
     rw is read)
     (cases_lt j n)
 
-pub pairs_fail : {e : Bool} (R : ℕ → ℕ → Type 0) (xs : List ℕ) (n : ℕ) → n < length xs → (e ≡ true → ¬ All (λ x. R x (slice_index xs n)) (take n xs)) → Tells e false (AllPairs R xs)
+pub pairs_fail : {e : Bool} (R : ℕ → ℕ → Type 0) (xs : List ℕ) (n : ℕ) → n < length xs
+    → (e ≡ true → ¬ All (λ x. R x (slice_index xs n)) (take n xs)) → Tells e false (AllPairs R xs)
 pairs_fail R xs n lt never =
     let long : length (take n xs) ≡ n = length-take-le n xs (omega arith) in
     refused (AllPairs R xs) (λ exact all. never exact (All-from_get_or (λ x. R x (slice_index xs n)) (take n xs) 0 (λ i low.
@@ -62,4 +66,6 @@ pairs_fail R xs n lt never =
     rw (get_or-take n xs i 0 inside) (all i n 0 inside lt))))
 
 pub pairs_hold : {e : Bool} (R : ℕ → ℕ → Type 0) (xs : List ℕ) (n : ℕ) → length xs ≤ n → BeforeAre R xs n → Tells e true (AllPairs R xs)
-pairs_hold R xs n past before = granted (AllPairs R xs) (λ i j d less low. rw (get_or_default xs i d 0 (omega arith), get_or_default xs j d 0 low) (before i j less (omega arith)))
+pairs_hold R xs n past before = granted (AllPairs R xs)
+    (λ i j d less low. rw (get_or_default xs i d 0 (omega arith), get_or_default xs j d 0 low)
+    (before i j less (omega arith)))

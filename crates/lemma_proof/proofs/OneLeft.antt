@@ -1,5 +1,6 @@
 -- The arc that a lemma leaves, as the loop over its arcs finds it.
-use Rattle.std.proofs.Common.{◌≡◌, ◌≢◌, refl, sym, ◌∙◌, ℕ, ◌<◌, ◌≤◌, ◌+◌, arith, ⊎_elim, Bool, true, false, is_some, List, length, Option, None, Some, slice_get, IfSome, MatchOption, [], ◌∷◌}
+use Rattle.std.proofs.Common.{◌≡◌, ◌≢◌, refl, sym, ◌∙◌, ℕ, ◌<◌, ◌≤◌, ◌+◌, arith, ⊎_elim, Bool, true, false, is_some}
+use Rattle.std.proofs.Common.{List, length, Option, None, Some, slice_get, IfSome, MatchOption, [], ◌∷◌}
 use Rattle.std.specs.List.{Contains}
 use Rattle.std.proofs.lemmas.Bool.{cases_eq, cases_lt, false≢true}
 use Rattle.std.specs.Option.{option_or}
@@ -26,14 +27,17 @@ LeftBefore exact arcs lemma i found = MatchOption found (AllBefore arcs lemma i)
 same_arc : (x y : Lag) → Some x ≡ Some y → x ≡ y
 same_arc x y e = cc
 
-step : (arcs lemma : List Lag) (i k : ℕ) (e f : Lag) → slice_get lemma i ≡ Some e → Implies arcs e → k < i + 1 → slice_get lemma k ≡ Some f → (k < i → Implies arcs f) → Implies arcs f
+step : (arcs lemma : List Lag) (i k : ℕ) (e f : Lag) → slice_get lemma i ≡ Some e → Implies arcs e → k < i + 1
+    → slice_get lemma k ≡ Some f → (k < i → Implies arcs f) → Implies arcs f
 step arcs lemma i k e f at here lt is old =
     ⊎_elim
     (λ (less : k < i). old less)
     (λ (most : i ≤ k). let same : k ≡ i = omega arith in let both : Some e ≡ Some f = sym at ∙ rw same at is in rw (same_arc e f both) at here)
     (cases_lt k i)
 
-pub before_implied : (exact : Bool) (arcs lemma : List Lag) (i : ℕ) (e : Lag) (found : Option Lag) → slice_get lemma i ≡ Some e → Implies arcs e → LeftBefore exact arcs lemma i found → LeftBefore exact arcs lemma (i + 1) found
+pub before_implied : (exact : Bool) (arcs lemma : List Lag) (i : ℕ) (e : Lag) (found : Option Lag)
+    → slice_get lemma i ≡ Some e → Implies arcs e → LeftBefore exact arcs lemma i found
+    → LeftBefore exact arcs lemma (i + 1) found
 before_implied exact arcs lemma i e None at here old = λ k f lt is. step arcs lemma i k e f at here lt is (λ less. old k f less is)
 before_implied exact arcs lemma i e (Some x) at here old = record {
   place = old.place;
@@ -43,7 +47,8 @@ before_implied exact arcs lemma i e (Some x) at here old = record {
   not = old.not;
 }
 
-pub before_left : (exact : Bool) (arcs lemma : List Lag) (i : ℕ) (e : Lag) → slice_get lemma i ≡ Some e → (exact ≡ true → ¬ Implies arcs e) → AllBefore arcs lemma i → OneBefore exact arcs lemma (i + 1) e
+pub before_left : (exact : Bool) (arcs lemma : List Lag) (i : ℕ) (e : Lag) → slice_get lemma i ≡ Some e
+    → (exact ≡ true → ¬ Implies arcs e) → AllBefore arcs lemma i → OneBefore exact arcs lemma (i + 1) e
 before_left exact arcs lemma i e at never all = record {
   place = i;
   before = omega arith;
@@ -53,7 +58,8 @@ before_left exact arcs lemma i e at never all = record {
 }
 
 -- two that are not implied
-pub two_left : (arcs lemma : List Lag) (i : ℕ) (e x : Lag) → slice_get lemma i ≡ Some e → ¬ Implies arcs e → OneBefore true arcs lemma i x → (f : Lag) → ¬ IsLeft arcs lemma f
+pub two_left : (arcs lemma : List Lag) (i : ℕ) (e x : Lag) → slice_get lemma i ≡ Some e → ¬ Implies arcs e
+    → OneBefore true arcs lemma i x → (f : Lag) → ¬ IsLeft arcs lemma f
 two_left arcs lemma i e x at never one f left =
     let low = one.before in
     ⊎_elim
@@ -82,18 +88,23 @@ none_left arcs (x ∷ lemma) empty e left = let bad : Some x ≡ None = empty in
 
 -- ---- what the loop answers
 
-pub there_at_end : (lemma : List Lag) (found first : Option Lag) → first ≡ slice_get lemma 0 → IfSome found (Contains lemma) → IfSome (option_or found first) (Contains lemma)
+pub there_at_end : (lemma : List Lag) (found first : Option Lag) → first ≡ slice_get lemma 0
+    → IfSome found (Contains lemma) → IfSome (option_or found first) (Contains lemma)
 there_at_end lemma (Some e) first is there = there
 there_at_end lemma None None is there = record {}
 there_at_end [] None (Some e) is there = absurd (cc)
 there_at_end (x ∷ lemma) None (Some e) is there = let both : Some e ≡ Some x = is in let same : e ≡ x = cc in rw same (0, omega arith, refl)
 
-pub second_left : (exact : Bool) (arcs lemma : List Lag) (i : ℕ) (e : Lag) (found : Option Lag) → is_some found ≡ true → slice_get lemma i ≡ Some e → (exact ≡ true → ¬ Implies arcs e) → LeftBefore exact arcs lemma i found → exact ≡ true → (f : Lag) → ¬ IsLeft arcs lemma f
+pub second_left : (exact : Bool) (arcs lemma : List Lag) (i : ℕ) (e : Lag) (found : Option Lag) → is_some found ≡ true
+    → slice_get lemma i ≡ Some e → (exact ≡ true → ¬ Implies arcs e) → LeftBefore exact arcs lemma i found
+    → exact ≡ true → (f : Lag) → ¬ IsLeft arcs lemma f
 second_left exact arcs lemma i e None some at never before sure f = absurd (false≢true some)
 second_left true arcs lemma i e (Some x) some at never before sure f = two_left arcs lemma i e x at (never sure) before f
 second_left false arcs lemma i e (Some x) some at never before sure f = absurd (false≢true sure)
 
-pub left_at_end : (exact : Bool) (arcs lemma : List Lag) (i : ℕ) (found first : Option Lag) → length lemma ≤ i → first ≡ slice_get lemma 0 → LeftBefore exact arcs lemma i found → MatchOption (option_or found first) (exact ≡ true → (e : Lag) → ¬ IsLeft arcs lemma e) (IsLeft arcs lemma)
+pub left_at_end : (exact : Bool) (arcs lemma : List Lag) (i : ℕ) (found first : Option Lag) → length lemma ≤ i
+    → first ≡ slice_get lemma 0 → LeftBefore exact arcs lemma i found
+    → MatchOption (option_or found first) (exact ≡ true → (e : Lag) → ¬ IsLeft arcs lemma e) (IsLeft arcs lemma)
 left_at_end exact arcs lemma i (Some e) first past is before = left_all exact arcs lemma i e past before
 left_at_end exact arcs lemma i None (Some e) past is before = first_left arcs lemma i e past (sym is) before
 left_at_end exact arcs lemma i None None past is before = λ sure. none_left arcs lemma (sym is)

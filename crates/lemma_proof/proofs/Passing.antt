@@ -1,5 +1,6 @@
 -- Passes over arcs by which weights rise.
-use Rattle.std.proofs.Common.{◌≡◌, refl, sym, subst, ℕ, ◌+◌, ◌<◌, ◌≤◌, arith, inl, inr, ◌⊎◌, ⊎_elim, ℤ, Bool, true, false, List, [], ◌∷◌, length, take, get_or, None, Some, Option, ◌≤ℤ◌, ◌+ℤ◌, pos}
+use Rattle.std.proofs.Common.{◌≡◌, refl, sym, subst, ℕ, ◌+◌, ◌<◌, ◌≤◌, arith, inl, inr, ◌⊎◌, ⊎_elim, ℤ, Bool, true}
+use Rattle.std.proofs.Common.{false, List, [], ◌∷◌, length, take, get_or, None, Some, Option, ◌≤ℤ◌, ◌+ℤ◌, pos}
 use Rattle.std.specs.Bool.{MatchBool}
 use Rattle.std.specs.List.{All, Contains}
 use Rattle.std.proofs.lemmas.Int.{ints}
@@ -26,13 +27,17 @@ among_one arcs e there f c = elim (Contains-push_cases [] e f c) [
 pub passing_first : (rows : Rows) (arcs : List Lag) (back s : List ℤ) → AreThereAndBack rows s back → IsPassing rows arcs back s s false 0
 passing_first rows arcs back s both = record { risen = risen_none rows arcs back s both; met = All-nil (Meets s) }
 
-pub passing_raised : (rows : Rows) (arcs : List Lag) (back first now new : List ℤ) (old raised : Bool) (i : ℕ) (e : Lag) → IsPassing rows arcs back first now old i → Contains arcs e → HaveRisen rows (e ∷ []) back now new → raised ≡ true → IsPassing rows arcs back first new raised (i + 1)
+pub passing_raised : (rows : Rows) (arcs : List Lag) (back first now new : List ℤ) (old raised : Bool) (i : ℕ) (e : Lag)
+    → IsPassing rows arcs back first now old i → Contains arcs e → HaveRisen rows (e ∷ []) back now new → raised ≡ true
+    → IsPassing rows arcs back first new raised (i + 1)
 passing_raised rows arcs back first now new old raised i e h there risen is = record {
   risen = risen_more rows arcs back first now new h.risen (risen_part rows (e ∷ []) arcs back now new (among_one arcs e there) risen);
   met = rw is tt;
 }
 
-pub passing_met : (rows : Rows) (arcs : List Lag) (back first now new : List ℤ) (old raised : Bool) (i : ℕ) (d : Lag) → IsPassing rows arcs back first now old i → i < length arcs → new ≡ now → Meets new (get_or arcs i d) → raised ≡ old → IsPassing rows arcs back first new raised (i + 1)
+pub passing_met : (rows : Rows) (arcs : List Lag) (back first now new : List ℤ) (old raised : Bool) (i : ℕ) (d : Lag)
+    → IsPassing rows arcs back first now old i → i < length arcs → new ≡ now → Meets new (get_or arcs i d)
+    → raised ≡ old → IsPassing rows arcs back first new raised (i + 1)
 passing_met rows arcs back first now new old raised i d h low same meets told =
     rw (same, told) (record { risen = h.risen; met = by_old old h.met })
   where
@@ -43,12 +48,14 @@ passing_met rows arcs back first now new old raised i d h low same meets told =
     by_old true m = tt
     by_old false m = All-more (Meets now) arcs i d low m here
 
-pub passing_all : (rows : Rows) (arcs : List Lag) (back first now : List ℤ) (i : ℕ) → IsPassing rows arcs back first now false i → length arcs ≤ i → MeetEach arcs now
+pub passing_all : (rows : Rows) (arcs : List Lag) (back first now : List ℤ) (i : ℕ)
+    → IsPassing rows arcs back first now false i → length arcs ≤ i → MeetEach arcs now
 passing_all rows arcs back first now i h past =
     let all : All (Meets now) arcs = rw (take_all i arcs past) at h.met in
     λ e c. All-contains (Meets now) arcs e all c
 
-pub passing_told : (rows : Rows) (arcs : List Lag) (back first now : List ℤ) (raised : Bool) (i : ℕ) → IsPassing rows arcs back first now raised i → length arcs ≤ i → IsPassed arcs back now (Some raised)
+pub passing_told : (rows : Rows) (arcs : List Lag) (back first now : List ℤ) (raised : Bool) (i : ℕ)
+    → IsPassing rows arcs back first now raised i → length arcs ≤ i → IsPassed arcs back now (Some raised)
 passing_told rows arcs back first now true i h past = tt
 passing_told rows arcs back first now false i h past = passing_all rows arcs back first now i h past
 
@@ -62,18 +69,24 @@ pub among_first : (e : Lag) (arcs : List Lag) → AreAmong (e ∷ []) (e ∷ arc
 among_first e arcs = among_one (e ∷ arcs) e (0, omega arith, refl)
 
 -- arcs that were met but one, which is met now
-pub still_met : (arcs : List Lag) (old new : List ℤ) (e : Lag) → new ≡ old → Meets new e → ((f : Lag) → Contains arcs f → Meets old f ⊎ (e ≡ f)) → MeetEach arcs new
+pub still_met : (arcs : List Lag) (old new : List ℤ) (e : Lag) → new ≡ old → Meets new e
+    → ((f : Lag) → Contains arcs f → Meets old f ⊎ (e ≡ f)) → MeetEach arcs new
 still_met arcs old new e same here before f c = ⊎_elim
     (λ (met : Meets old f). subst (λ (s : List ℤ). Meets s f) (sym same) met)
     (λ (is : e ≡ f). subst (Meets new) is here)
     (before f c)
 
 -- a rise by one arc and then by the others
-pub rise_risen : (rows : Rows) (e : Lag) (arcs : List Lag) (back old now new : List ℤ) → HaveRisen rows (e ∷ []) back old now → HaveRisen rows arcs back now new → HaveRisen rows (e ∷ arcs) back old new
+pub rise_risen : (rows : Rows) (e : Lag) (arcs : List Lag) (back old now new : List ℤ)
+    → HaveRisen rows (e ∷ []) back old now → HaveRisen rows arcs back now new → HaveRisen rows (e ∷ arcs) back old new
 rise_risen rows e arcs back old now new first next =
-    risen_more rows (e ∷ arcs) back old now new (risen_part rows (e ∷ []) (e ∷ arcs) back old now (among_first e arcs) first) (risen_part rows arcs (e ∷ arcs) back now new (among_rest e arcs) next)
+    risen_more rows (e ∷ arcs) back old now new
+    (risen_part rows (e ∷ []) (e ∷ arcs) back old now (among_first e arcs) first)
+    (risen_part rows arcs (e ∷ arcs) back now new (among_rest e arcs) next)
 
-pub rise_told : (rows : Rows) (e : Lag) (arcs : List Lag) (back old now new : List ℤ) (told : Option Bool) → e.to < length rows → (start old e.from +ℤ e.weight) ≤ℤ start now e.to → HaveRisen rows arcs back now new → MeetsAllArcs arcs back new told → IsRisenBy e arcs back old new told
+pub rise_told : (rows : Rows) (e : Lag) (arcs : List Lag) (back old now new : List ℤ) (told : Option Bool)
+    → e.to < length rows → (start old e.from +ℤ e.weight) ≤ℤ start now e.to → HaveRisen rows arcs back now new
+    → MeetsAllArcs arcs back new told → IsRisenBy e arcs back old new told
 rise_told rows e arcs back old now new None lt over risen late = late_part arcs (e ∷ arcs) new back (among_rest e arcs) late
 rise_told rows e arcs back old now new (Some true) lt over risen met = let up = risen.grown e.to lt in (omega (arith, ints, up, over), λ before. met)
 rise_told rows e arcs back old now new (Some false) lt over risen met = let up = risen.grown e.to lt in (omega (arith, ints, up, over), tt)

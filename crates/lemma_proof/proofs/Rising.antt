@@ -23,7 +23,8 @@ pub at_home : (rows : Rows) → IsTable rows → (i : ℕ) → i < length rows �
 at_home rows t i li = (IsGreatest-matrix (length rows) t.matrix.arcs rows t.matrix.matrix).covered i i [] li li refl
 
 -- the weights are no greater than those of walks
-pub there_small : (rows : Rows) (there back : List ℤ) → IsTable rows → AreThereAndBack rows there back → (i : ℕ) → i < length rows → IsWithin MAX_WALK_WEIGHT (start there i)
+pub there_small : (rows : Rows) (there back : List ℤ) → IsTable rows → AreThereAndBack rows there back → (i : ℕ)
+    → i < length rows → IsWithin MAX_WALK_WEIGHT (start there i)
 there_small rows there back t b i li =
     let out = t.full 0 i t.some li in
     let home = t.full i 0 li t.some in
@@ -34,7 +35,8 @@ there_small rows there back t b i li =
     let closed : (start there i +ℤ start back i) ≤ℤ pos 0 = b.closed i li in
     record { at_least = omega (arith, ints, b.low); at_most = omega (arith, ints, b.back_low) }
 
-pub back_small : (rows : Rows) (there back : List ℤ) → IsTable rows → AreThereAndBack rows there back → (i : ℕ) → i < length rows → IsWithin MAX_WALK_WEIGHT (start back i)
+pub back_small : (rows : Rows) (there back : List ℤ) → IsTable rows → AreThereAndBack rows there back → (i : ℕ)
+    → i < length rows → IsWithin MAX_WALK_WEIGHT (start back i)
 back_small rows there back t b i li =
     let out = t.full 0 i t.some li in
     let home = t.full i 0 li t.some in
@@ -47,7 +49,8 @@ back_small rows there back t b i li =
 
 -- ---- one arc
 
-raised_met : (rows : Rows) (to : ℕ) (way : ℤ) (there back new : List ℤ) → IsTable rows → to < length rows → AreThereAndBack rows there back → IsRaised rows to way there new →
+raised_met : (rows : Rows) (to : ℕ) (way : ℤ) (there back new : List ℤ) → IsTable rows → to < length rows
+    → AreThereAndBack rows there back → IsRaised rows to way there new →
     (a b : ℕ) (w : ℤ) → entry rows a b ≡ Some w → (start new a +ℤ w) ≤ℤ start new b
 raised_met rows to way there back new t lt both r a b w is =
     let ends = IsSquare-inside (length rows) a b w rows (square_of rows t.matrix) is in
@@ -61,7 +64,8 @@ raised_met rows to way there back new t lt both r a b w is =
     let new_b = r.raised b last.0 last.1 in
     omega (arith, ints, clamps, new_a, new_b, same, on, old)
 
-raised_closed : (rows : Rows) (to : ℕ) (way : ℤ) (there back new : List ℤ) → IsTable rows → to < length rows → AreThereAndBack rows there back → (way +ℤ start back to) ≤ℤ pos 0 → IsRaised rows to way there new →
+raised_closed : (rows : Rows) (to : ℕ) (way : ℤ) (there back new : List ℤ) → IsTable rows → to < length rows
+    → AreThereAndBack rows there back → (way +ℤ start back to) ≤ℤ pos 0 → IsRaised rows to way there new →
     (i : ℕ) → i < length rows → (start new i +ℤ start back i) ≤ℤ pos 0
 raised_closed rows to way there back new t lt both low r i li =
     let on = t.full to i lt li in
@@ -70,13 +74,16 @@ raised_closed rows to way there back new t lt both low r i li =
     let is = r.raised i on.0 on.1 in
     omega (arith, ints, clamps, is, home, old)
 
-raised_grown : (rows : Rows) (to : ℕ) (way : ℤ) (there new : List ℤ) → IsTable rows → to < length rows → IsRaised rows to way there new → (i : ℕ) → i < length rows → start there i ≤ℤ start new i
+raised_grown : (rows : Rows) (to : ℕ) (way : ℤ) (there new : List ℤ) → IsTable rows → to < length rows
+    → IsRaised rows to way there new → (i : ℕ) → i < length rows → start there i ≤ℤ start new i
 raised_grown rows to way there new t lt r i li =
     let on = t.full to i lt li in
     let is = r.raised i on.0 on.1 in
     omega (arith, ints, clamps, is)
 
-raised_both : (rows : Rows) (to : ℕ) (way : ℤ) (there back new : List ℤ) → IsTable rows → to < length rows → AreThereAndBack rows there back → (way +ℤ start back to) ≤ℤ pos 0 → IsRaised rows to way there new → AreThereAndBack rows new back
+raised_both : (rows : Rows) (to : ℕ) (way : ℤ) (there back new : List ℤ) → IsTable rows → to < length rows
+    → AreThereAndBack rows there back → (way +ℤ start back to) ≤ℤ pos 0 → IsRaised rows to way there new
+    → AreThereAndBack rows new back
 raised_both rows to way there back new t lt both low r =
     let kept : start there 0 ≤ℤ start new 0 = raised_grown rows to way there new t lt r 0 t.some in
     record {
@@ -97,21 +104,27 @@ raised_over rows to way there new t lt r =
     let is = r.raised to on.0 on.1 in
     omega (arith, ints, clamps, is, low)
 
-raised_reached : (rows : Rows) (e : Lag) (there new : List ℤ) → IsTable rows → IsLight (length rows) e → IsRaised rows e.to (start there e.from +ℤ e.weight) there new → (all : List Lag) → AreAmong (e ∷ []) all → AreReached (length rows) rows all there → AreReached (length rows) rows all new
+raised_reached : (rows : Rows) (e : Lag) (there new : List ℤ) → IsTable rows → IsLight (length rows) e
+    → IsRaised rows e.to (start there e.from +ℤ e.weight) there new → (all : List Lag) → AreAmong (e ∷ []) all
+    → AreReached (length rows) rows all there → AreReached (length rows) rows all new
 raised_reached rows e there new t light r all among reached i li own m =
     let on = t.full e.to i light.to_activity li in
     let is = r.raised i on.0 on.1 in
     by_lt_z (start there i) ((start there e.from +ℤ e.weight) +ℤ on.0)
     (λ less.
     let first : Implies (own ++ all) (arc_of 0 e.from (start there e.from)) = reached e.from light.from_activity own m in
-    let over : Implies (own ++ all) (arc_of e.from e.to e.weight) = implied_arc (own ++ all) e (Contains-append_right own all e (among e (0, omega arith, refl))) in
+    let over : Implies (own ++ all) (arc_of e.from e.to e.weight) =
+    implied_arc (own ++ all) e (Contains-append_right own all e (among e (0, omega arith, refl))) in
     let last : Implies own (arc_of e.to i on.0) = implied_entry (length rows) own rows e.to i on.0 m light.to_activity li on.1 in
     let after : Implies (own ++ all) (arc_of e.to i on.0) = implied_part own (own ++ all) (arc_of e.to i on.0) (λ f d. Contains-append_left own all f d) last in
-    let whole = implied_joined (own ++ all) 0 e.to i (start there e.from +ℤ e.weight) on.0 (implied_joined (own ++ all) 0 e.from e.to (start there e.from) e.weight first over) after in
+    let whole = implied_joined (own ++ all) 0 e.to i (start there e.from +ℤ e.weight) on.0
+    (implied_joined (own ++ all) 0 e.from e.to (start there e.from) e.weight first over) after in
     implied_lower (own ++ all) 0 i (start new i) ((start there e.from +ℤ e.weight) +ℤ on.0) (omega (arith, ints, clamps, is)) whole)
     (λ kept. implied_lower (own ++ all) 0 i (start new i) (start there i) (omega (arith, ints, clamps, is)) (reached i li own m))
 
-pub risen_raised : (rows : Rows) (e : Lag) (there back new : List ℤ) → IsTable rows → IsLight (length rows) e → AreThereAndBack rows there back → ((start there e.from +ℤ e.weight) +ℤ start back e.to) ≤ℤ pos 0 → IsRaised rows e.to (start there e.from +ℤ e.weight) there new → HaveRisen rows (e ∷ []) back there new
+pub risen_raised : (rows : Rows) (e : Lag) (there back new : List ℤ) → IsTable rows → IsLight (length rows) e
+    → AreThereAndBack rows there back → ((start there e.from +ℤ e.weight) +ℤ start back e.to) ≤ℤ pos 0
+    → IsRaised rows e.to (start there e.from +ℤ e.weight) there new → HaveRisen rows (e ∷ []) back there new
 risen_raised rows e there back new t light both low r = record {
   both = raised_both rows e.to (start there e.from +ℤ e.weight) there back new t light.to_activity both low r;
   grown = raised_grown rows e.to (start there e.from +ℤ e.weight) there new t light.to_activity r;
@@ -123,14 +136,16 @@ risen_raised rows e there back new t light both low r = record {
 pub risen_none : (rows : Rows) (arcs : List Lag) (back s : List ℤ) → AreThereAndBack rows s back → HaveRisen rows arcs back s s
 risen_none rows arcs back s both = record { both = both; grown = λ i li. omega (arith, ints); reached = λ all among r. r }
 
-pub risen_more : (rows : Rows) (arcs : List Lag) (back x y z : List ℤ) → HaveRisen rows arcs back x y → HaveRisen rows arcs back y z → HaveRisen rows arcs back x z
+pub risen_more : (rows : Rows) (arcs : List Lag) (back x y z : List ℤ) → HaveRisen rows arcs back x y
+    → HaveRisen rows arcs back y z → HaveRisen rows arcs back x z
 risen_more rows arcs back x y z first next = record {
   both = next.both;
   grown = λ i li. let one = first.grown i li in let two = next.grown i li in omega (arith, ints);
   reached = λ all among r. next.reached all among (first.reached all among r);
 }
 
-pub risen_part : (rows : Rows) (arcs others : List Lag) (back x y : List ℤ) → AreAmong arcs others → HaveRisen rows arcs back x y → HaveRisen rows others back x y
+pub risen_part : (rows : Rows) (arcs others : List Lag) (back x y : List ℤ) → AreAmong arcs others
+    → HaveRisen rows arcs back x y → HaveRisen rows others back x y
 risen_part rows arcs others back x y part h = record {
   both = h.both;
   grown = h.grown;
@@ -139,14 +154,17 @@ risen_part rows arcs others back x y part h = record {
 
 -- ---- the way over an arc
 
-pub way_small : (rows : Rows) (there back : List ℤ) (e : Lag) → IsTable rows → AreThereAndBack rows there back → IsLight (length rows) e → IsWithin (MAX_WALK_WEIGHT +ℤ MAX_WALK_WEIGHT) (start there e.from +ℤ e.weight)
+pub way_small : (rows : Rows) (there back : List ℤ) (e : Lag) → IsTable rows → AreThereAndBack rows there back
+    → IsLight (length rows) e → IsWithin (MAX_WALK_WEIGHT +ℤ MAX_WALK_WEIGHT) (start there e.from +ℤ e.weight)
 way_small rows there back e t both light =
     let small = there_small rows there back t both e.from light.from_activity in
     let weight = light.light in
     record { at_least = omega (arith, ints, small.at_least, weight.at_least); at_most = omega (arith, ints, small.at_most, weight.at_most) }
 
 -- a way that raises the weight of an activity, and is not too long with the way back
-pub way_between : (rows : Rows) (there back : List ℤ) (way : ℤ) (to : ℕ) → IsTable rows → AreThereAndBack rows there back → to < length rows → start there to ≤ℤ way → (way +ℤ start back to) ≤ℤ pos 0 → IsWithin MAX_WALK_WEIGHT way
+pub way_between : (rows : Rows) (there back : List ℤ) (way : ℤ) (to : ℕ) → IsTable rows
+    → AreThereAndBack rows there back → to < length rows → start there to ≤ℤ way → (way +ℤ start back to) ≤ℤ pos 0
+    → IsWithin MAX_WALK_WEIGHT way
 way_between rows there back way to t both lt more closed =
     let small = there_small rows there back t both to lt in
     let home = back_small rows there back t both to lt in

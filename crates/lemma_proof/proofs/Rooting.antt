@@ -1,5 +1,7 @@
 -- A table that takes the ways over an arc, row after row.
-use Rattle.std.proofs.Common.{◌≡◌, refl, sym, ◌∙◌, ap, subst, ℕ, ◌+◌, ◌<◌, ◌≤◌, ◌≢◌, arith, inl, inr, ℤ, pos, ◌+ℤ◌, ◌≤ℤ◌, List, [], Some, None, Option, map, length, get_or, get_or-set_same, get_or-set_other}
+use Rattle.std.proofs.Common.{◌≡◌, refl, sym, ◌∙◌, ap, subst, ℕ, ◌+◌, ◌<◌, ◌≤◌, ◌≢◌, arith, inl, inr, ℤ, pos, ◌+ℤ◌}
+use Rattle.std.proofs.Common.{◌≤ℤ◌, List, [], Some, None, Option, map, length, get_or, get_or-set_same}
+use Rattle.std.proofs.Common.{get_or-set_other}
 use Rattle.std.proofs.Math.ListN.{set}
 use Rattle.std.specs.Int.{int_max}
 use Rattle.std.proofs.lemmas.Bool.{cases_eq}
@@ -38,10 +40,13 @@ square_cells : (cells : List (List ℤ)) → IsMatrix (rows_of cells) → AreSqu
 unfolding AreSquare
 square_cells cells m a la =
     let lr : a < length (rows_of cells) = rw (length-rows_of cells) la in
-    let wide : length (get_or (rows_of cells) a []) ≡ length (rows_of cells) = All-get_or (λ row. length row ≡ length (rows_of cells)) (rows_of cells) a [] lr (square_of (rows_of cells) m).columns_long in
+    let wide : length (get_or (rows_of cells) a []) ≡ length (rows_of cells) =
+    All-get_or (λ row. length row ≡ length (rows_of cells)) (rows_of cells) a [] lr
+    (square_of (rows_of cells) m).columns_long in
     sym (length-map (get_or cells a []) Some) ∙ ap length (sym (row-rows_of cells a la)) ∙ wide ∙ length-rows_of cells
 
-entry-rows_of : (cells : List (List ℤ)) (a b : ℕ) → AreSquare cells → a < length cells → b < length cells → entry (rows_of cells) a b ≡ Some (start (get_or cells a []) b)
+entry-rows_of : (cells : List (List ℤ)) (a b : ℕ) → AreSquare cells → a < length cells → b < length cells
+    → entry (rows_of cells) a b ≡ Some (start (get_or cells a []) b)
 unfolding AreSquare
 entry-rows_of cells a b square la lb =
     ap (λ (r : List (Option ℤ)). get_or r b None) (row-rows_of cells a la) ∙ get_or-map Some (get_or cells a []) b (pos 0) None (rw (square a la) lb)
@@ -57,10 +62,13 @@ square_rows cells n long square = record {
 
 -- ---- one row
 
-cell_small : (cells : List (List ℤ)) (a b : ℕ) → IsMatrix (rows_of cells) → a < length cells → b < length cells → IsWithin MAX_WALK_WEIGHT (start (get_or cells a []) b)
+cell_small : (cells : List (List ℤ)) (a b : ℕ) → IsMatrix (rows_of cells) → a < length cells → b < length cells
+    → IsWithin MAX_WALK_WEIGHT (start (get_or cells a []) b)
 cell_small cells a b m la lb = m.within a b (start (get_or cells a []) b) (entry-rows_of cells a b (square_cells cells m) la lb)
 
-pub may_take : (cells : List (List ℤ)) (via : List ℤ) (e : Lag) (a : ℕ) → IsTable (rows_of cells) → IsLight (length (rows_of cells)) e → ClosesNone e (rows_of cells) → IsRowAt (rows_of cells) e.to via → a < length cells → MayTakeWay e (get_or cells a []) via
+pub may_take : (cells : List (List ℤ)) (via : List ℤ) (e : Lag) (a : ℕ) → IsTable (rows_of cells)
+    → IsLight (length (rows_of cells)) e → ClosesNone e (rows_of cells) → IsRowAt (rows_of cells) e.to via
+    → a < length cells → MayTakeWay e (get_or cells a []) via
 unfolding AreSquare
 may_take cells via e a t light none row la =
     let n = length-rows_of cells in
@@ -82,15 +90,19 @@ may_take cells via e a t light none row la =
           let near : k < length cells = omega (arith, lk, row.long, n) in
           t.matrix.within e.to k (start via k) (says k near);
       first_small =
-          let home = transitive (length (rows_of cells)) m.arcs (rows_of cells) m.matrix e.to a e.from (start via a) (start (get_or cells a []) e.from) (says a la) from in
+          let home = transitive (length (rows_of cells)) m.arcs (rows_of cells) m.matrix e.to a e.from (start via a)
+          (start (get_or cells a []) e.from) (says a la) from in
           let on : (start via a +ℤ start (get_or cells a []) e.from) ≤ℤ home.0 = home.2 in
           let round : (home.0 +ℤ e.weight) ≤ℤ pos 0 = none home.0 home.1 in
           let least : IsWithin MAX_WALK_WEIGHT (start via a) = m.within e.to a (start via a) (says a la) in
           omega (arith, ints, on, round, least.at_least);
       closed = λ k lk.
           let near : k < length cells = rw wide at lk in
-          let through = transitive (length (rows_of cells)) m.arcs (rows_of cells) m.matrix a e.to k (start (get_or cells a []) e.to) (start via k) to (says k near) in
-          let same : through.0 ≡ start (get_or cells a []) k = same_some through.0 (start (get_or cells a []) k) (entry (rows_of cells) a k) through.1 (entry-rows_of cells a k square la near) in
+          let through = transitive (length (rows_of cells)) m.arcs (rows_of cells) m.matrix a e.to k
+          (start (get_or cells a []) e.to) (start via k) to (says k near) in
+          let same : through.0 ≡ start (get_or cells a []) k =
+          same_some through.0 (start (get_or cells a []) k) (entry (rows_of cells) a k) through.1
+          (entry-rows_of cells a k square la near) in
           let on : (start (get_or cells a []) e.to +ℤ start via k) ≤ℤ through.0 = through.2 in
           omega (arith, ints, same, on);
     }
@@ -111,7 +123,9 @@ pub record ArePartlyOver (e : Lag) (via : List ℤ) (a : ℕ) (old now : List (L
 pub none_over : (e : Lag) (via : List ℤ) (old : List (List ℤ)) → ArePartlyOver e via 0 old old
 none_over e via old = record { long = refl; done = λ x less. absurd (omega arith); rest = λ x more. refl }
 
-pub over_more : (e : Lag) (via : List ℤ) (a : ℕ) (old now next : List (List ℤ)) (new : List ℤ) → ArePartlyOver e via a old now → a < length now → next ≡ set now a new → HasTakenWay e via (get_or now a []) new → ArePartlyOver e via (a + 1) old next
+pub over_more : (e : Lag) (via : List ℤ) (a : ℕ) (old now next : List (List ℤ)) (new : List ℤ)
+    → ArePartlyOver e via a old now → a < length now → next ≡ set now a new → HasTakenWay e via (get_or now a []) new
+    → ArePartlyOver e via (a + 1) old next
 over_more e via a old now next new h la is taken = rw is (record {
   long = length-set now a new ∙ h.long;
   done = λ x less low. elim (cases_eq x a) [
@@ -126,7 +140,9 @@ over_is x from way on = by_lt_z x ((from +ℤ way) +ℤ on)
     (λ less. grind (arith, ints, clamps))
     (λ kept. grind (arith, ints, clamps))
 
-pub all_over : (e : Lag) (via : List ℤ) (a : ℕ) (old now : List (List ℤ)) → IsTable (rows_of old) → IsLight (length (rows_of old)) e → IsRowAt (rows_of old) e.to via → ArePartlyOver e via a old now → length old ≤ a → rows_of now ≡ rows_over e (rows_of old)
+pub all_over : (e : Lag) (via : List ℤ) (a : ℕ) (old now : List (List ℤ)) → IsTable (rows_of old)
+    → IsLight (length (rows_of old)) e → IsRowAt (rows_of old) e.to via → ArePartlyOver e via a old now → length old ≤ a
+    → rows_of now ≡ rows_over e (rows_of old)
 unfolding AreSquare
 all_over e via a old now t light row h past =
     let n = length-rows_of old in
@@ -142,7 +158,8 @@ all_over e via a old now t light row h past =
     let new = entry-rows_of now x b wide (rw h.long low) (rw h.long near) in
     let here = (h.done x (omega (arith, low, past)) low).taken b (rw (square_cells old t.matrix x low) near) in
     new ∙ ap Some here ∙ over_is (start (get_or old x []) b) (start (get_or old x []) e.from) e.weight (start via b)
-    ∙ sym (entry-rows_over e (rows_of old) x b lx lb ∙ rw (entry-rows_of old x b square low near, entry-rows_of old x e.from square low lf, row.says b lb) refl))
+    ∙ sym (entry-rows_over e (rows_of old) x b lx lb
+    ∙ rw (entry-rows_of old x b square low near, entry-rows_of old x e.from square low lf, row.says b lb) refl))
 
 -- ---- the new table
 
@@ -157,12 +174,15 @@ pub table_over : (rows : Rows) (e : Lag) → IsTable rows → IsLight (length ro
 table_over rows e t light none =
     let fills : FillsRows e rows = record { light = light.light; full = full_over e rows t.full } in
     record {
-      matrix = still_matrix (length rows) e rows (rows_over e rows) refl t.matrix light.from_activity light.to_activity (inr fills) (gains_nothing e rows none) (IsSquare-rows_over e rows) (IsEntryOver-rows_over e rows (square_of rows t.matrix));
+      matrix = still_matrix (length rows) e rows (rows_over e rows) refl t.matrix light.from_activity light.to_activity
+          (inr fills) (gains_nothing e rows none) (IsSquare-rows_over e rows)
+          (IsEntryOver-rows_over e rows (square_of rows t.matrix));
       full = fills.full;
       some = rw (length-rows_over e rows) t.some;
     }
 
-pub over_heads : (x : HeadsOf) (e : Lag) (rows : Rows) → AreHeads x → IsLight (length x.rows) e → ClosesNone e x.rows → rows ≡ rows_over e x.rows → AreHeads (record x { rows = rows })
+pub over_heads : (x : HeadsOf) (e : Lag) (rows : Rows) → AreHeads x → IsLight (length x.rows) e → ClosesNone e x.rows
+    → rows ≡ rows_over e x.rows → AreHeads (record x { rows = rows })
 over_heads x e rows h light none is =
     let long : length rows ≡ length x.rows = ap length is ∙ length-rows_over e x.rows in
     record {

@@ -19,7 +19,8 @@ use Rattle.lemma_proof.specs.Lines.{AreRefuted, HasUsed, HaveUsed, IsIn, IsOverl
 abbrev pub Gives : List Lag → List Lag → Type 0
 Gives more arcs = (e : Lag) → Contains arcs e → Implies more e
 
-walk_given : (arcs more : List Lag) (a b : ℕ) (es : List Lag) → Gives more arcs → IsWalk arcs a es b → (walk : List Lag) × IsWalk more a walk b × (weight es ≤ℤ weight walk)
+walk_given : (arcs more : List Lag) (a b : ℕ) (es : List Lag) → Gives more arcs → IsWalk arcs a es b → (walk : List Lag)
+    × IsWalk more a walk b × (weight es ≤ℤ weight walk)
 walk_given arcs more a b [] gives w = ([], w, omega (arith, ints))
 walk_given arcs more a b (e ∷ es) gives w =
     let first = gives e w.0 in
@@ -52,13 +53,16 @@ gives_more arcs more e gives f c =
 
 -- ---- lemmas that stay where they are
 
-has_used : (others lemmas : Slots) → ((slot : ℕ) (lemma : List Lag) → IsIn lemmas slot lemma → IsIn others slot lemma) → (line : Line) → HasUsed others lemmas line
+has_used : (others lemmas : Slots) → ((slot : ℕ) (lemma : List Lag) → IsIn lemmas slot lemma → IsIn others slot lemma)
+    → (line : Line) → HasUsed others lemmas line
 has_used others lemmas have (Force pair) = tt
 has_used others lemmas have (Use slot) = have slot
 has_used others lemmas have (Push arc over) = tt
 
 -- where all lemmas are there, so are those that lines use
-pub have_used : (others lemmas : Slots) → ((slot : ℕ) (lemma : List Lag) → IsIn lemmas slot lemma → IsIn others slot lemma) → (lines : List Line) → HaveUsed others lemmas lines
+pub have_used : (others lemmas : Slots) →
+    ((slot : ℕ) (lemma : List Lag) → IsIn lemmas slot lemma → IsIn others slot lemma) → (lines : List Line)
+    → HaveUsed others lemmas lines
 have_used others lemmas have [] = record {}
 have_used others lemmas have (line ∷ lines) = (has_used others lemmas have line, have_used others lemmas have lines)
 
@@ -79,7 +83,9 @@ load_given p k from to arcs more gives l = record {
   some = l.some;
   window = l.window;
   parts = l.parts;
-  each = λ i lt. ⊎_elim (λ (none : l.parts i ≡ 0). inl none) (λ (r : MustRun p arcs from to i (l.parts i)). inr (must_run_given p arcs more from to i (l.parts i) gives r)) (l.each i lt);
+  each = λ i lt. ⊎_elim (λ (none : l.parts i ≡ 0). inl none)
+      (λ (r : MustRun p arcs from to i (l.parts i)). inr (must_run_given p arcs more from to i (l.parts i) gives r))
+      (l.each i lt);
   over = l.over;
 }
 
@@ -93,12 +99,15 @@ apart_given p arcs more i j gives apart =
     order))
     apart
 
-clique_given : (p : Problem) (from to : ℤ) (members : List ℕ) (arcs more : List Lag) → Gives more arcs → IsClique p arcs from to members → IsClique p more from to members
+clique_given : (p : Problem) (from to : ℤ) (members : List ℕ) (arcs more : List Lag) → Gives more arcs
+    → IsClique p arcs from to members → IsClique p more from to members
 clique_given p from to members arcs more gives c = record {
   several = c.several;
   are_members = c.are_members;
   apart = λ i j d lt inside. apart_given p arcs more (get_or members i d) (get_or members j d) gives (c.apart i j d lt inside);
-  inside = All-weaker (RunsWithin p arcs from to) (RunsWithin p more from to) (λ i r. record { late = implied_given arcs more _ gives r.late; early = implied_given arcs more _ gives r.early }) members c.inside;
+  inside = All-weaker (RunsWithin p arcs from to) (RunsWithin p more from to)
+      (λ i r. record { late = implied_given arcs more _ gives r.late; early = implied_given arcs more _ gives r.early })
+      members c.inside;
   over = c.over;
 }
 
@@ -106,18 +115,22 @@ overload_given : (p : Problem) (over : WindowOverload) (arcs more : List Lag) �
 overload_given p (Load resource from to) arcs more gives over = (over.0, load_given p resource from to arcs more gives over.1)
 overload_given p (Clique from to members) arcs more gives over = (over.0, clique_given p from to members arcs more gives over.1)
 
-pushed_given : (p : Problem) (arc : Option Lag) (over : WindowOverload) (arcs more : List Lag) (e : Lag) → Gives more arcs → IsPushed p arcs arc over e → IsPushed p more arc over e
+pushed_given : (p : Problem) (arc : Option Lag) (over : WindowOverload) (arcs more : List Lag) (e : Lag)
+    → Gives more arcs → IsPushed p arcs arc over e → IsPushed p more arc over e
 pushed_given p None over arcs more e gives pushed = (overload_given p over arcs more gives pushed.0, pushed.1)
 pushed_given p (Some f) over arcs more e gives pushed = (
   pushed.0,
   ⊎_elim
       (λ (implied : Implies arcs f). inl (implied_given arcs more f gives implied))
-      (λ (ends : IsOverload p (arcs ++ reverse_of f ∷ []) over). inr (overload_given p over (arcs ++ reverse_of f ∷ []) (more ++ reverse_of f ∷ []) (gives_more arcs more (reverse_of f) gives) ends))
+      (λ (ends : IsOverload p (arcs ++ reverse_of f ∷ []) over).
+      inr (overload_given p over (arcs ++ reverse_of f ∷ []) (more ++ reverse_of f ∷ [])
+      (gives_more arcs more (reverse_of f) gives) ends))
       pushed.1,
   pushed.2,
 )
 
-use_given : (lemmas others : Slots) (slot : ℕ) (arcs more : List Lag) (e : Lag) → HasUsed others lemmas (Use slot) → Gives more arcs → IsUse lemmas arcs slot e → IsUse others more slot e
+use_given : (lemmas others : Slots) (slot : ℕ) (arcs more : List Lag) (e : Lag) → HasUsed others lemmas (Use slot)
+    → Gives more arcs → IsUse lemmas arcs slot e → IsUse others more slot e
 use_given lemmas others slot arcs more e has gives u = record {
   lemma = u.lemma;
   found = has u.lemma u.found;
@@ -126,19 +139,30 @@ use_given lemmas others slot arcs more e has gives u = record {
   reverse = u.reverse;
 }
 
-pub shown_given : (p : Problem) (lemmas others : Slots) (arcs more : List Lag) (line : Line) (e : Lag) → HasUsed others lemmas line → Gives more arcs → Shows p lemmas arcs line e → Shows p others more line e
-shown_given p lemmas others arcs more (Force pair) e has gives shown = (record { incompatible = shown.0.incompatible; too_late = implied_given arcs more _ gives shown.0.too_late }, shown.1)
+pub shown_given : (p : Problem) (lemmas others : Slots) (arcs more : List Lag) (line : Line) (e : Lag)
+    → HasUsed others lemmas line → Gives more arcs → Shows p lemmas arcs line e → Shows p others more line e
+shown_given p lemmas others arcs more (Force pair) e has gives shown = (
+  record { incompatible = shown.0.incompatible; too_late = implied_given arcs more _ gives shown.0.too_late },
+  shown.1,
+)
 shown_given p lemmas others arcs more (Use slot) e has gives shown = use_given lemmas others slot arcs more e has gives shown
 shown_given p lemmas others arcs more (Push arc over) e has gives shown = pushed_given p arc over arcs more e gives shown
 
-pub refuted_given : (p : Problem) (lemmas others : Slots) (arcs more : List Lag) (lines : List Line) → HaveUsed others lemmas lines → Gives more arcs → AreRefuted p lemmas arcs lines → AreRefuted p others more lines
+pub refuted_given : (p : Problem) (lemmas others : Slots) (arcs more : List Lag) (lines : List Line)
+    → HaveUsed others lemmas lines → Gives more arcs → AreRefuted p lemmas arcs lines → AreRefuted p others more lines
 refuted_given p lemmas others arcs more [] have gives refuted = cycle_given arcs more gives refuted
 refuted_given p lemmas others arcs more (line ∷ lines) have gives refuted =
     ⊎_elim
     (λ (cycle : HasPositiveCycle arcs). inl (cycle_given arcs more gives cycle))
     (λ (next : (e : Lag) × Shows p lemmas arcs line e × AreRefuted p lemmas (arcs ++ e ∷ []) lines).
-    inr (next.0, shown_given p lemmas others arcs more line next.0 have.0 gives next.1, refuted_given p lemmas others (arcs ++ next.0 ∷ []) (more ++ next.0 ∷ []) lines have.1 (gives_more arcs more next.0 gives) next.2))
+    inr (
+      next.0,
+      shown_given p lemmas others arcs more line next.0 have.0 gives next.1,
+      refuted_given p lemmas others (arcs ++ next.0 ∷ []) (more ++ next.0 ∷ []) lines have.1
+          (gives_more arcs more next.0 gives) next.2,
+    ))
     refuted
 
 pub stay_refuted : StayRefuted
-stay_refuted p lemmas others arcs more lines refuted have implied = refuted_given p lemmas others arcs more lines have (λ e c. All-contains (Implies more) arcs e implied c) refuted
+stay_refuted p lemmas others arcs more lines refuted have implied =
+    refuted_given p lemmas others arcs more lines have (λ e c. All-contains (Implies more) arcs e implied c) refuted

@@ -1,5 +1,6 @@
 -- What a line shows is met, so refuted arcs are not all met.
-use Rattle.std.proofs.Common.{ℕ, List, [], get_or, arith, ℤ, pos, ◌+ℤ◌, ◌-ℤ◌, ◌≤ℤ◌, ◌≡◌, sym, ◌∙◌, subst, ⊎_elim, ◌⊎◌, inl, inr, ◌∷◌, ◌++◌, Option, None, Some, slice_get}
+use Rattle.std.proofs.Common.{ℕ, List, [], get_or, arith, ℤ, pos, ◌+ℤ◌, ◌-ℤ◌, ◌≤ℤ◌, ◌≡◌, sym, ◌∙◌, subst, ⊎_elim, ◌⊎◌}
+use Rattle.std.proofs.Common.{inl, inr, ◌∷◌, ◌++◌, Option, None, Some, slice_get}
 use Rattle.std.specs.List.{All, Contains}
 use Rattle.std.proofs.lemmas.Bool.{cases_eq}
 use Rattle.std.proofs.lemmas.Int.{ints, by_lt_z}
@@ -67,7 +68,8 @@ overload_refuted : (p : Problem) (arcs : List Lag) (over : WindowOverload) (s : 
 overload_refuted p arcs (Load resource from to) s over feasible met = load_refuted p arcs resource from to s over.1 feasible met
 overload_refuted p arcs (Clique from to members) s over feasible met = clique_refuted p arcs from to members s over.1 feasible met
 
-pushed_met : (p : Problem) (arcs : List Lag) (arc : Option Lag) (over : WindowOverload) (e : Lag) (s : List ℤ) → IsPushed p arcs arc over e → IsFeasible p s → MeetsAll s arcs → Meets s e
+pushed_met : (p : Problem) (arcs : List Lag) (arc : Option Lag) (over : WindowOverload) (e : Lag) (s : List ℤ)
+    → IsPushed p arcs arc over e → IsFeasible p s → MeetsAll s arcs → Meets s e
 pushed_met p arcs None over e s pushed feasible met = absurd (overload_refuted p arcs over s pushed.0 feasible met)
 pushed_met p arcs (Some f) over e s pushed feasible met =
     let here : Meets s f = ⊎_elim
@@ -75,24 +77,30 @@ pushed_met p arcs (Some f) over e s pushed feasible met =
     (λ (ends : IsOverload p (arcs ++ reverse_of f ∷ []) over).
     ⊎_elim
     (λ (kept : Meets s f). kept)
-    (λ (back : Meets s (reverse_of f)). absurd (overload_refuted p (arcs ++ reverse_of f ∷ []) over s ends feasible (meets_more s arcs (reverse_of f) met back)))
+    (λ (back : Meets s (reverse_of f)). absurd
+    (overload_refuted p (arcs ++ reverse_of f ∷ []) over s ends feasible
+    (meets_more s arcs (reverse_of f) met back)))
     (either_met s f))
     pushed.1 in
     rw pushed.2 here
 
-shown_met : (p : Problem) (lemmas : Slots) (arcs : List Lag) (line : Line) (e : Lag) (s : List ℤ) → Shows p lemmas arcs line e → IsFeasible p s → MeetsNone s lemmas → MeetsAll s arcs → Meets s e
+shown_met : (p : Problem) (lemmas : Slots) (arcs : List Lag) (line : Line) (e : Lag) (s : List ℤ)
+    → Shows p lemmas arcs line e → IsFeasible p s → MeetsNone s lemmas → MeetsAll s arcs → Meets s e
 shown_met p lemmas arcs (Force pair) e s shown feasible none met = rw shown.1 (forced_met p arcs pair s shown.0 feasible met)
 shown_met p lemmas arcs (Use slot) e s shown feasible none met = use_met lemmas arcs slot e s shown none met
 shown_met p lemmas arcs (Push arc over) e s shown feasible none met = pushed_met p arcs arc over e s shown feasible met
 
-refuted_unmet : (p : Problem) (lemmas : Slots) (arcs : List Lag) (lines : List Line) (s : List ℤ) → AreRefuted p lemmas arcs lines → IsFeasible p s → MeetsNone s lemmas → MeetsAll s arcs → ⊥
+refuted_unmet : (p : Problem) (lemmas : Slots) (arcs : List Lag) (lines : List Line) (s : List ℤ)
+    → AreRefuted p lemmas arcs lines → IsFeasible p s → MeetsNone s lemmas → MeetsAll s arcs → ⊥
 refuted_unmet p lemmas arcs [] s refuted feasible none met = cycle_refuted arcs s refuted met
 refuted_unmet p lemmas arcs (line ∷ lines) s refuted feasible none met =
     ⊎_elim
     (λ (cycle : HasPositiveCycle arcs). cycle_refuted arcs s cycle met)
     (λ (more : (e : Lag) × Shows p lemmas arcs line e × AreRefuted p lemmas (arcs ++ e ∷ []) lines).
-    refuted_unmet p lemmas (arcs ++ more.0 ∷ []) lines s more.2 feasible none (meets_more s arcs more.0 met (shown_met p lemmas arcs line more.0 s more.1 feasible none met)))
+    refuted_unmet p lemmas (arcs ++ more.0 ∷ []) lines s more.2 feasible none
+    (meets_more s arcs more.0 met (shown_met p lemmas arcs line more.0 s more.1 feasible none met)))
     refuted
 
 pub none_meets_refuted : NoneMeetsRefuted
-none_meets_refuted p lemmas arcs lines refuted s feasible none met = refuted_unmet p lemmas arcs lines s refuted feasible none (λ e c. All-contains (Meets s) arcs e met c)
+none_meets_refuted p lemmas arcs lines refuted s feasible none met =
+    refuted_unmet p lemmas arcs lines s refuted feasible none (λ e c. All-contains (Meets s) arcs e met c)

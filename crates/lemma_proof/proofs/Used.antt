@@ -7,13 +7,15 @@ use Rattle.network.specs.Problem.{Problem, activity_count}
 use Rattle.lemma_proof.specs.Heads.{IsLight}
 use Rattle.lemma_proof.specs.Lines.{IsArc, IsIn, IsLeft, IsUse, Slots}
 
-pub used : (lemmas : Slots) (arcs lemma : List Lag) (slot : ℕ) (left e : Lag) → IsIn lemmas slot lemma → e ≡ reverse_of left → IsLeft arcs lemma left → IsUse lemmas arcs slot e
+pub used : (lemmas : Slots) (arcs lemma : List Lag) (slot : ℕ) (left e : Lag) → IsIn lemmas slot lemma
+    → e ≡ reverse_of left → IsLeft arcs lemma left → IsUse lemmas arcs slot e
 used lemmas arcs lemma slot left e found is here = record { lemma = lemma; found = found; left = left; is_left = here; reverse = is }
 
 same_lemma : (xs ys : List Lag) → Some (Some xs) ≡ Some (Some ys) → xs ≡ ys
 same_lemma xs ys e = cc
 
-pub not_used : (lemmas : Slots) (arcs lemma : List Lag) (slot : ℕ) → IsIn lemmas slot lemma → ((e : Lag) → ¬ IsLeft arcs lemma e) → (e : Lag) → ¬ IsUse lemmas arcs slot e
+pub not_used : (lemmas : Slots) (arcs lemma : List Lag) (slot : ℕ) → IsIn lemmas slot lemma
+    → ((e : Lag) → ¬ IsLeft arcs lemma e) → (e : Lag) → ¬ IsUse lemmas arcs slot e
 not_used lemmas arcs lemma slot found never e u =
     let same : u.lemma ≡ lemma = same_lemma u.lemma lemma (sym u.found ∙ found) in
     never u.left (rw same at u.is_left)

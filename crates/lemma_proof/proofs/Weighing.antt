@@ -1,5 +1,6 @@
 -- Sums of weights of walks and of a reverse are small, and what an entry says of an arc.
-use Rattle.std.proofs.Common.{◌≡◌, refl, subst, ℕ, ◌<◌, arith, ℤ, ◌+ℤ◌, ◌≤ℤ◌, ◌<ℤ◌, List, [], ◌∷◌, ◌++◌, length, Option, None, Some, w64, FitsSigned, ◌↔◌, IsTrue}
+use Rattle.std.proofs.Common.{◌≡◌, refl, subst, ℕ, ◌<◌, arith, ℤ, ◌+ℤ◌, ◌≤ℤ◌, ◌<ℤ◌, List, [], ◌∷◌, ◌++◌, length, Option}
+use Rattle.std.proofs.Common.{None, Some, w64, FitsSigned, ◌↔◌, IsTrue}
 use Rattle.std.specs.Int.Signed.{le_z, lt_z}
 use Rattle.std.proofs.lemmas.Int.{ints, by_lt_z}
 use Rattle.network.specs.declared.parts.Lag.{Lag}
@@ -47,7 +48,8 @@ pub test_lt : (x y : ℤ) → x <ℤ y → IsTrue (lt_z x y)
 test_lt x y h = grind (arith, ints)
 
 -- the arcs imply what is at most the entry
-pub implied_by : (n : ℕ) (arcs : List Lag) (rows : Rows) (e : Lag) (w : ℤ) → IsMatrixOf n arcs rows → e.from < n → e.to < n → entry rows e.from e.to ≡ Some w → IsTrue (le_z e.weight w) ↔ Implies arcs e
+pub implied_by : (n : ℕ) (arcs : List Lag) (rows : Rows) (e : Lag) (w : ℤ) → IsMatrixOf n arcs rows → e.from < n
+    → e.to < n → entry rows e.from e.to ≡ Some w → IsTrue (le_z e.weight w) ↔ Implies arcs e
 implied_by n arcs rows e w m from to is =
     let at : IsGreatestWeight arcs e.from e.to (Some w) = rw is at (m.greatest e.from e.to from to) in (
       λ test.
@@ -58,7 +60,8 @@ implied_by n arcs rows e w m from to is =
           test_le e.weight w (omega (arith, ints)),
     )
 
-pub not_implied : (n : ℕ) (arcs : List Lag) (rows : Rows) (e : Lag) → IsMatrixOf n arcs rows → e.from < n → e.to < n → entry rows e.from e.to ≡ None → ¬ Implies arcs e
+pub not_implied : (n : ℕ) (arcs : List Lag) (rows : Rows) (e : Lag) → IsMatrixOf n arcs rows → e.from < n → e.to < n
+    → entry rows e.from e.to ≡ None → ¬ Implies arcs e
 not_implied n arcs rows e m from to is implied =
     let at : IsGreatestWeight arcs e.from e.to None = rw is at (m.greatest e.from e.to from to) in
     at implied.walk implied.goes
@@ -66,7 +69,8 @@ not_implied n arcs rows e m from to is implied =
 -- ---- the reverse of an arc
 
 -- where the arc isn't implied, its reverse closes no walk of positive weight
-closes_none : (n : ℕ) (arcs : List Lag) (rows : Rows) (e : Lag) → IsMatrixOf n arcs rows → e.from < n → e.to < n → ¬ Implies arcs e → ClosesNone (reverse_of e) rows
+closes_none : (n : ℕ) (arcs : List Lag) (rows : Rows) (e : Lag) → IsMatrixOf n arcs rows → e.from < n → e.to < n
+    → ¬ Implies arcs e → ClosesNone (reverse_of e) rows
 closes_none n arcs rows e m from to never = λ x is.
     let at : IsGreatestWeight arcs e.from e.to (Some x) = rw is at (m.greatest e.from e.to from to) in
     by_lt_z x e.weight
@@ -75,7 +79,8 @@ closes_none n arcs rows e m from to never = λ x is.
     absurd (never (record { walk = at.0.0; goes = at.0.1; weighs = omega (arith, ints) })))
 
 -- so the rows over it are the matrix of the arcs with the reverse
-pub reversed : (n : ℕ) (arcs : List Lag) (rows : Rows) (e : Lag) → length rows ≡ n → IsMatrixOf n arcs rows → e.from < n → e.to < n → ¬ Implies arcs e → IsMatrixOf n (arcs ++ reverse_of e ∷ []) (rows_over (reverse_of e) rows)
+pub reversed : (n : ℕ) (arcs : List Lag) (rows : Rows) (e : Lag) → length rows ≡ n → IsMatrixOf n arcs rows → e.from < n
+    → e.to < n → ¬ Implies arcs e → IsMatrixOf n (arcs ++ reverse_of e ∷ []) (rows_over (reverse_of e) rows)
 reversed n arcs rows e long m from to never =
     let here : IsMatrixOf (length rows) arcs rows = rw long m in
     let over = AddsArc-rows_over (reverse_of e) rows (rw long to) (rw long from) (closes_none n arcs rows e m from to never) arcs here in

@@ -14,7 +14,8 @@ use Rattle.lemma_proof.specs.Heads.{IsLight}
 use Rattle.lemma_proof.proofs.Existing.{closes_none, full_more}
 use Rattle.lemma_proof.specs.Bench.{IsWide}
 
-pub wide_with : (rows : Rows) (more : List Lag) (found : Option Marked) → IsMatrix rows → IsFull rows → IsMatrixWith rows more found → IfSome found (IsWide (length rows))
+pub wide_with : (rows : Rows) (more : List Lag) (found : Option Marked) → IsMatrix rows → IsFull rows
+    → IsMatrixWith rows more found → IfSome found (IsWide (length rows))
 wide_with rows more None m full with = record {}
 wide_with rows more (Some d) m full with =
     let all : IsMatrixOf (length rows) (m.arcs ++ more) d.rows = with m.arcs m.matrix in
@@ -34,12 +35,16 @@ fills_wide e d full light = record { light = light.light; full = full_over e d.r
 pub taken_none : (e : Lag) (old new : Marked) → IsMatrix old.rows → IsLight (length old.rows) e → IsInserted e old new false → ClosesNone e old.rows
 taken_none e old new m light taken =
     let all : IsMatrixOf (length old.rows) (m.arcs ++ e ∷ []) new.rows = taken.0 m.arcs m.matrix in
-    closes_none (length old.rows) m.arcs old.rows e (m.arcs ++ e ∷ []) m.matrix light.from_activity light.to_activity (λ f c. Contains-append_left m.arcs (e ∷ []) f c) (Contains-append_right m.arcs (e ∷ []) e (0, omega arith, refl)) all.no_cycle
+    closes_none (length old.rows) m.arcs old.rows e (m.arcs ++ e ∷ []) m.matrix light.from_activity light.to_activity
+    (λ f c. Contains-append_left m.arcs (e ∷ []) f c)
+    (Contains-append_right m.arcs (e ∷ []) e (0, omega arith, refl)) all.no_cycle
 
 pub taken_rows : (e : Lag) (old new : Marked) → IsMatrix old.rows → IsLight (length old.rows) e → IsInserted e old new false → rows_over e old.rows ≡ new.rows
 taken_rows e old new m light taken =
     let all : IsMatrixOf (length old.rows) (m.arcs ++ e ∷ []) new.rows = taken.0 m.arcs m.matrix in
-    one_matrix (length old.rows) (m.arcs ++ e ∷ []) (rows_over e old.rows) new.rows (AddsArc-rows_over e old.rows light.from_activity light.to_activity (taken_none e old new m light taken) m.arcs m.matrix) all
+    one_matrix (length old.rows) (m.arcs ++ e ∷ []) (rows_over e old.rows) new.rows
+    (AddsArc-rows_over e old.rows light.from_activity light.to_activity (taken_none e old new m light taken) m.arcs
+    m.matrix) all
 
 -- ---- what each value gives
 

@@ -1,5 +1,7 @@
 -- What runs in a window, unit by unit.
-use Rattle.std.proofs.Common.{◌≡◌, ℕ, ◌+◌, ◌-◌, ◌*◌, ◌<◌, ◌≤◌, cond, ⊎_elim, List, ap, arith, ℤ, pos, negsuc, ◌+ℤ◌, ◌-ℤ◌, ◌≤ℤ◌, suc, inl, inr, Bool, true, false, [], ◌∷◌, get_or, length, refl, ◌⊎◌, Option, None, Some, ◌<ℤ◌, ◌&&◌, int_le, int_lt, unsigned_abs, map-id}
+use Rattle.std.proofs.Common.{◌≡◌, ℕ, ◌+◌, ◌-◌, ◌*◌, ◌<◌, ◌≤◌, cond, ⊎_elim, List, ap, arith, ℤ, pos, negsuc, ◌+ℤ◌}
+use Rattle.std.proofs.Common.{◌-ℤ◌, ◌≤ℤ◌, suc, inl, inr, Bool, true, false, [], ◌∷◌, get_or, length, refl, ◌⊎◌, Option}
+use Rattle.std.proofs.Common.{None, Some, ◌<ℤ◌, ◌&&◌, int_le, int_lt, unsigned_abs, map-id}
 use Rattle.std.specs.List.{All, sum_by, AllPairs, Contains, range_with_len}
 use Rattle.std.proofs.lemmas.Int.{ints, by_lt_z, clamps}
 use Rattle.std.proofs.lemmas.List.Elements.{All-from_get_or, All-head, All-tail}
@@ -10,7 +12,8 @@ use Rattle.network.specs.Schedule.{start, is_running, IsFeasible}
 use Rattle.longest_path.specs.Insert.{arc_of}
 use Rattle.bounds.proofs.Tasks.{over, over-const, over-sum_by, over-span, sum_by-filter, sum_by-le-each, abs_is}
 use Rattle.forbidden_sets.proofs.Apart.{runs_when, apart, BeginsFrom}
-use Rattle.lemma_proof.specs.Reasons.{AreBelow, Entries, Implies, MustRun, IsLoad, pair_of, RunsWithin, StartsAfterEnd, RunApart, IsClique, least_part, part_of, load_of}
+use Rattle.lemma_proof.specs.Reasons.{AreBelow, Entries, Implies, MustRun, IsLoad, pair_of, RunsWithin, StartsAfterEnd}
+use Rattle.lemma_proof.specs.Reasons.{RunApart, IsClique, least_part, part_of, load_of}
 use Rattle.lemma_proof.proofs.Implying.{implied_lower}
 use Rattle.lemma_proof.proofs.Weighing.{MeetsAll, implied_met}
 use Rattle.std.proofs.lemmas.List.Sums.{sum_by-cons}
@@ -27,7 +30,8 @@ gap (negsuc a) (pos b) h = (b + a + 1, omega (arith, ints))
 gap (negsuc a) (negsuc b) h = (a - b, omega (arith, ints))
 
 -- an activity that runs in m units of the window or more asks for r in each of them
-pub part_in_window : (p : Problem) (s : List ℤ) (from : ℤ) (units i m r : ℕ) → pos m ≤ℤ duration p i → m ≤ units → (from +ℤ pos m) ≤ℤ (start s i +ℤ duration p i) → (start s i +ℤ pos m) ≤ℤ (from +ℤ pos units) →
+pub part_in_window : (p : Problem) (s : List ℤ) (from : ℤ) (units i m r : ℕ) → pos m ≤ℤ duration p i → m ≤ units
+    → (from +ℤ pos m) ≤ℤ (start s i +ℤ duration p i) → (start s i +ℤ pos m) ≤ℤ (from +ℤ pos units) →
     m * r ≤ over (λ u. cond (is_running p s (from +ℤ pos u) i) r 0) units
 part_in_window p s from units i m r short fits late early =
     by_lt_z from (start s i)
@@ -42,10 +46,12 @@ part_in_window p s from units i m r short fits late early =
         (λ u l h. ap (λ b. cond b r 0) (runs_when (start s i) (from +ℤ pos u) (start s i +ℤ duration p i) (omega (arith, ints)) (omega (arith, ints))))
 
 -- what an activity must run in the window, it runs there
-must_run : (p : Problem) (arcs : List Lag) (s : List ℤ) (from to : ℤ) (units i m r : ℕ) → start s 0 ≡ pos 0 → MeetsAll s arcs → to ≡ from +ℤ pos units → MustRun p arcs from to i m →
+must_run : (p : Problem) (arcs : List Lag) (s : List ℤ) (from to : ℤ) (units i m r : ℕ) → start s 0 ≡ pos 0
+    → MeetsAll s arcs → to ≡ from +ℤ pos units → MustRun p arcs from to i m →
     m * r ≤ over (λ u. cond (is_running p s (from +ℤ pos u) i) r 0) units
 must_run p arcs s from to units i m r zero met window must =
-    let late : (start s 0 +ℤ ((from +ℤ pos m) -ℤ duration p i)) ≤ℤ start s i = implied_met arcs s met (arc_of 0 i ((from +ℤ pos m) -ℤ duration p i)) must.late in
+    let late : (start s 0 +ℤ ((from +ℤ pos m) -ℤ duration p i)) ≤ℤ start s i =
+    implied_met arcs s met (arc_of 0 i ((from +ℤ pos m) -ℤ duration p i)) must.late in
     let early : (start s i +ℤ (pos m -ℤ to)) ≤ℤ start s 0 = implied_met arcs s met (arc_of i 0 (pos m -ℤ to)) must.early in
     part_in_window p s from units i m r must.within_activity (omega (arith, ints)) (omega (arith, ints)) (omega (arith, ints))
 
@@ -63,7 +69,8 @@ load_refuted p arcs k from to s load feasible met =
     let m : ℕ = load.units in
     let g : ℕ → ℕ → ℕ = λ u i. cond (is_running p s (from +ℤ pos u) i) (demand p k i) 0 in
     let work : ℕ → ℕ = λ i. load.parts i * demand p k i in
-    let each : sum_by work X ≤ sum_by (λ i. over (λ u. g u i) m) X = sum_by-le-each work (λ i. over (λ u. g u i) m) X (each_activity p (λ i. work i ≤ over (λ u. g u i) m) one) in
+    let each : sum_by work X ≤ sum_by (λ i. over (λ u. g u i) m) X =
+    sum_by-le-each work (λ i. over (λ u. g u i) m) X (each_activity p (λ i. work i ≤ over (λ u. g u i) m) one) in
     let swapped : over (λ u. sum_by (g u) X) m ≡ sum_by (λ i. over (λ u. g u i) m) X = over-sum_by g m X in
     let used : (u : ℕ) → sum_by (g u) X ≤ capacity p k = λ u.
     omega (arith, sum_by-filter (demand p k) (is_running p s (from +ℤ pos u)) (activities p), feasible.within (from +ℤ pos u) k load.in_range) in
@@ -75,8 +82,11 @@ load_refuted p arcs k from to s load feasible met =
     one i lt =
         ⊎_elim
         (λ (none : load.parts i ≡ 0).
-        over-span (λ u. cond (is_running p s (from +ℤ pos u) i) (demand p k i) 0) (demand p k i) 0 (load.parts i) load.units (omega arith) (λ u l h. absurd (omega (arith, none, l, h))))
-        (λ (must : MustRun p arcs from to i (load.parts i)). must_run p arcs s from to load.units i (load.parts i) (demand p k i) feasible.schedule.from_zero met load.window must)
+        over-span (λ u. cond (is_running p s (from +ℤ pos u) i) (demand p k i) 0) (demand p k i) 0 (load.parts i)
+        load.units (omega arith) (λ u l h. absurd (omega (arith, none, l, h))))
+        (λ (must : MustRun p arcs from to i (load.parts i)).
+        must_run p arcs s from to load.units i (load.parts i) (demand p k i) feasible.schedule.from_zero met
+        load.window must)
         (load.each i lt)
 
 -- ---- Activities of which no two can run at the same time, all in one window: together they take no longer than it is.
@@ -95,7 +105,12 @@ one_if b = cond b 1 0
 
 none_passes : (f : ℕ → Bool) (xs : List ℕ) → All (λ i. f i ≡ true → ⊥) xs → sum_by (λ i. one_if (f i)) xs ≡ 0
 none_passes f [] h = refl
-none_passes f (x ∷ xs) h = omega (arith, sum_by-cons (λ i. one_if (f i)) x xs, none_passes f xs (All-tail (λ i. f i ≡ true → ⊥) x xs h), zero_at (f x) (All-head (λ i. f i ≡ true → ⊥) x xs h))
+none_passes f (x ∷ xs) h = omega (
+  arith,
+  sum_by-cons (λ i. one_if (f i)) x xs,
+  none_passes f xs (All-tail (λ i. f i ≡ true → ⊥) x xs h),
+  zero_at (f x) (All-head (λ i. f i ≡ true → ⊥) x xs h),
+)
   where
     zero_at : (b : Bool) → (b ≡ true → ⊥) → one_if b ≡ 0
     zero_at true never = absurd (never refl)
@@ -138,22 +153,29 @@ rivals_apart p s u i j feasible rivals runs_i runs_j =
     let early_j = ends_when (start s j) u (start s j +ℤ duration p j) runs_j in
     apart p s (pair_of i j) feasible rivals (omega (arith, ints)) (omega (arith, ints))
 
-not_both : (p : Problem) (arcs : List Lag) (s : List ℤ) (u : ℤ) (i j : ℕ) → IsFeasible p s → MeetsAll s arcs → RunApart p arcs i j → NotBoth (is_running p s u) i j
+not_both : (p : Problem) (arcs : List Lag) (s : List ℤ) (u : ℤ) (i j : ℕ) → IsFeasible p s → MeetsAll s arcs
+    → RunApart p arcs i j → NotBoth (is_running p s u) i j
 not_both p arcs s u i j feasible met (inl rivals) = rivals_apart p s u i j feasible rivals
 not_both p arcs s u i j feasible met (inr (inl first)) = in_order p arcs s u i j met first
 not_both p arcs s u i j feasible met (inr (inr second)) = λ runs_i runs_j. in_order p arcs s u j i met second runs_j runs_i
 
 -- an activity that runs within the window asks for each of its units there
-runs_there : (p : Problem) (arcs : List Lag) (s : List ℤ) (from to : ℤ) (units i : ℕ) → start s 0 ≡ pos 0 → MeetsAll s arcs → to ≡ from +ℤ pos units → pos 0 <ℤ duration p i → RunsWithin p arcs from to i →
+runs_there : (p : Problem) (arcs : List Lag) (s : List ℤ) (from to : ℤ) (units i : ℕ) → start s 0 ≡ pos 0
+    → MeetsAll s arcs → to ≡ from +ℤ pos units → pos 0 <ℤ duration p i → RunsWithin p arcs from to i →
     unsigned_abs (duration p i) ≤ over (λ u. cond (is_running p s (from +ℤ pos u) i) 1 0) units
 runs_there p arcs s from to units i zero met window long within =
     let late : (start s 0 +ℤ from) ≤ℤ start s i = implied_met arcs s met (arc_of 0 i from) within.late in
     let early : (start s i +ℤ (duration p i -ℤ to)) ≤ℤ start s 0 = implied_met arcs s met (arc_of i 0 (duration p i -ℤ to)) within.early in
     let abs : duration p i ≡ pos (unsigned_abs (duration p i)) = abs_is (duration p i) (omega (arith, ints)) in
-    omega (arith, part_in_window p s from units i (unsigned_abs (duration p i)) 1 (omega (arith, ints)) (omega (arith, ints)) (omega (arith, ints)) (omega (arith, ints)))
+    omega (
+      arith,
+      part_in_window p s from units i (unsigned_abs (duration p i)) 1 (omega (arith, ints))
+          (omega (arith, ints)) (omega (arith, ints)) (omega (arith, ints)),
+    )
 
 -- so no feasible schedule meets the arcs
-pub clique_refuted : (p : Problem) (arcs : List Lag) (from to : ℤ) (members : List ℕ) (s : List ℤ) → IsClique p arcs from to members → IsFeasible p s → MeetsAll s arcs → ⊥
+pub clique_refuted : (p : Problem) (arcs : List Lag) (from to : ℤ) (members : List ℕ) (s : List ℤ)
+    → IsClique p arcs from to members → IsFeasible p s → MeetsAll s arcs → ⊥
 clique_refuted p arcs from to members s clique feasible met = in_window (gap from to some_room)
   where
     -- the first of the members runs in the window
@@ -171,9 +193,15 @@ clique_refuted p arcs from to members s clique feasible met = in_window (gap fro
     in_window (m, window) =
         let g : ℕ → ℕ → ℕ = λ u i. cond (is_running p s (from +ℤ pos u) i) 1 0 in
         let all : ℕ → ℕ = λ i. unsigned_abs (duration p i) in
-        let each : sum_by all members ≤ sum_by (λ i. over (λ u. g u i) m) members = sum_by-le-each all (λ i. over (λ u. g u i) m) members (λ k d l. runs_there p arcs s from to m (get_or members k d) feasible.schedule.from_zero met window (clique.are_members.take_time k d l).long (clique.inside k d l)) in
+        let each : sum_by all members ≤ sum_by (λ i. over (λ u. g u i) m) members =
+        sum_by-le-each all (λ i. over (λ u. g u i) m) members
+        (λ k d l. runs_there p arcs s from to m (get_or members k d) feasible.schedule.from_zero met window
+        (clique.are_members.take_time k d l).long (clique.inside k d l)) in
         let swapped : over (λ u. sum_by (g u) members) m ≡ sum_by (λ i. over (λ u. g u i) m) members = over-sum_by g m members in
-        let one : (u : ℕ) → sum_by (g u) members ≤ 1 = λ u. one_passes (is_running p s (from +ℤ pos u)) members (λ i j d lt l. not_both p arcs s (from +ℤ pos u) (get_or members i d) (get_or members j d) feasible met (clique.apart i j d lt l)) in
+        let one : (u : ℕ) → sum_by (g u) members ≤ 1 = λ u.
+        one_passes (is_running p s (from +ℤ pos u)) members
+        (λ i j d lt l. not_both p arcs s (from +ℤ pos u) (get_or members i d) (get_or members j d) feasible met
+        (clique.apart i j d lt l)) in
         let most : over (λ u. sum_by (g u) members) m ≤ m * 1 = over-const (λ u. sum_by (g u) members) 1 m one in
         let exceeds : to <ℤ (from +ℤ pos (sum_by all members)) = clique.over in
         omega (arith, ints, each, swapped, most, exceeds)
@@ -192,10 +220,18 @@ record IsLeastOf (a b c d : ℤ) (m : ℕ) : Type 0 where
   third : pos m ≤ℤ c
   fourth : pos m ≤ℤ d
 
-least_or_none : (a b c d : ℤ) → (unsigned_abs (int_max (int_min (int_min (int_min a b) c) d) (pos 0)) ≡ 0) ⊎ IsLeastOf a b c d (unsigned_abs (int_max (int_min (int_min (int_min a b) c) d) (pos 0)))
+least_or_none : (a b c d : ℤ) → (unsigned_abs (int_max (int_min (int_min (int_min a b) c) d) (pos 0)) ≡ 0)
+    ⊎ IsLeastOf a b c d (unsigned_abs (int_max (int_min (int_min (int_min a b) c) d) (pos 0)))
 least_or_none a b c d =
     ⊎_elim
-    (λ (some : 0 < unsigned_abs (int_max (int_min (int_min (int_min a b) c) d) (pos 0))). inr (record { first = omega (arith, ints, clamps); second = omega (arith, ints, clamps); third = omega (arith, ints, clamps); fourth = omega (arith, ints, clamps) }))
+    (λ (some : 0 < unsigned_abs (int_max (int_min (int_min (int_min a b) c) d) (pos 0))).
+    inr (record {
+      first = omega (arith, ints, clamps);
+      second = omega (arith, ints, clamps);
+      third =
+          omega (arith, ints, clamps);
+      fourth = omega (arith, ints, clamps);
+    }))
     (λ (none : unsigned_abs (int_max (int_min (int_min (int_min a b) c) d) (pos 0)) ≤ 0). inl (omega arith))
     (cases_lt 0 (unsigned_abs (int_max (int_min (int_min (int_min a b) c) d) (pos 0))))
 
@@ -205,7 +241,9 @@ at_most_least a b c d m below =
 
 -- ---- an activity's part
 
-part_by : (p : Problem) (arcs : List Lag) (from to : ℤ) (i : ℕ) (head back : Option ℤ) → ((w : ℤ) → head ≡ Some w → Implies arcs (arc_of 0 i w)) → ((w : ℤ) → back ≡ Some w → Implies arcs (arc_of i 0 w)) →
+part_by : (p : Problem) (arcs : List Lag) (from to : ℤ) (i : ℕ) (head back : Option ℤ)
+    → ((w : ℤ) → head ≡ Some w → Implies arcs (arc_of 0 i w)) → ((w : ℤ) → back ≡ Some w → Implies arcs (arc_of i 0 w))
+    →
     (least_part (duration p i) from to head back ≡ 0) ⊎ MustRun p arcs from to i (least_part (duration p i) from to head back)
 part_by p arcs from to i None back of_head of_back = inl refl
 part_by p arcs from to i (Some h) None of_head of_back = inl refl
@@ -232,37 +270,55 @@ part_by p arcs from to i (Some h) (Some b) of_head of_back =
     move_early : (to b : ℤ) (m : ℕ) → pos m ≤ℤ (to +ℤ b) → (pos m -ℤ to) ≤ℤ b
     move_early to b m le = omega (arith, ints)
 
-most_by : (p : Problem) (arcs : List Lag) (from to : ℤ) (i m : ℕ) (head back : Option ℤ) → IsGreatestWeight arcs 0 i head → IsGreatestWeight arcs i 0 back → MustRun p arcs from to i m → m ≤ least_part (duration p i) from to head back
+most_by : (p : Problem) (arcs : List Lag) (from to : ℤ) (i m : ℕ) (head back : Option ℤ)
+    → IsGreatestWeight arcs 0 i head → IsGreatestWeight arcs i 0 back → MustRun p arcs from to i m
+    → m ≤ least_part (duration p i) from to head back
 most_by p arcs from to i m None back of_head of_back must = absurd (of_head must.late.walk must.late.goes)
 most_by p arcs from to i m (Some h) None of_head of_back must = absurd (of_back must.early.walk must.early.goes)
 most_by p arcs from to i m (Some h) (Some b) of_head of_back must =
     let head : weight must.late.walk ≤ℤ h = of_head.1 must.late.walk must.late.goes in
     let back : weight must.early.walk ≤ℤ b = of_back.1 must.early.walk must.early.goes in
     let short : pos m ≤ℤ duration p i = must.within_activity in
-    at_most_least (duration p i) (to -ℤ from) ((h +ℤ duration p i) -ℤ from) (to +ℤ b) m (record { first = short; second = omega (arith, ints); third = omega (arith, ints); fourth = omega (arith, ints) })
+    at_most_least (duration p i) (to -ℤ from) ((h +ℤ duration p i) -ℤ from) (to +ℤ b) m
+    (record {
+      first = short;
+      second = omega (arith, ints);
+      third = omega (arith, ints);
+      fourth =
+          omega (arith, ints);
+    })
 
-pub part_is : (p : Problem) (arcs : List Lag) (x : Entries) (from to : ℤ) (i : ℕ) → AreBelow (activity_count p) arcs x → i < activity_count p → (part_of p x.rows from to i ≡ 0) ⊎ MustRun p arcs from to i (part_of p x.rows from to i)
+pub part_is : (p : Problem) (arcs : List Lag) (x : Entries) (from to : ℤ) (i : ℕ) → AreBelow (activity_count p) arcs x
+    → i < activity_count p → (part_of p x.rows from to i ≡ 0) ⊎ MustRun p arcs from to i (part_of p x.rows from to i)
 part_is p arcs x from to i below lt =
     let some : 0 < activity_count p = omega arith in
     part_by p arcs from to i (entry x.rows 0 i) (entry x.rows i 0) (λ w is. below.walks 0 i w some lt is) (λ w is. below.walks i 0 w lt some is)
 
-pub part_most : (p : Problem) (arcs : List Lag) (rows : Rows) (from to : ℤ) (i k : ℕ) → IsMatrixOf (activity_count p) arcs rows → i < activity_count p → MustRun p arcs from to i k → k ≤ part_of p rows from to i
+pub part_most : (p : Problem) (arcs : List Lag) (rows : Rows) (from to : ℤ) (i k : ℕ)
+    → IsMatrixOf (activity_count p) arcs rows → i < activity_count p → MustRun p arcs from to i k
+    → k ≤ part_of p rows from to i
 part_most p arcs rows from to i k m lt must =
     let some : 0 < activity_count p = omega arith in
     most_by p arcs from to i k (entry rows 0 i) (entry rows i 0) (m.greatest 0 i some lt) (m.greatest i 0 lt some) must
 
 -- ---- the load
 
-pub load_more : (p : Problem) (rows : Rows) (k : ℕ) (from to : ℤ) (n : ℕ) → load_of p rows k from to (range_with_len 0 (n + 1)) ≡ load_of p rows k from to (range_with_len 0 n) + part_of p rows from to n * demand p k n
+pub load_more : (p : Problem) (rows : Rows) (k : ℕ) (from to : ℤ) (n : ℕ)
+    → load_of p rows k from to (range_with_len 0 (n + 1)) ≡ load_of p rows k from to (range_with_len 0 n) + part_of p
+    rows from to n * demand p k n
 load_more p rows k from to n =
     let work : ℕ → ℕ = λ i. part_of p rows from to i * demand p k i in
     rw (map-id (range_with_len 0 (n + 1)), map-id (range_with_len 0 n)) at (sum_by-map-range_with_len_more work (λ i. i) 0 n n (omega arith))
 
 -- what must run asks for no more than the load
-pub load_most : (p : Problem) (arcs : List Lag) (rows : Rows) (k : ℕ) (from to : ℤ) (load : IsLoad p arcs k from to) → IsMatrixOf (activity_count p) arcs rows → sum_by (λ i. load.parts i * demand p k i) (activities p) ≤ load_of p rows k from to (activities p)
+pub load_most : (p : Problem) (arcs : List Lag) (rows : Rows) (k : ℕ) (from to : ℤ) (load : IsLoad p arcs k from to)
+    → IsMatrixOf (activity_count p) arcs rows
+    → sum_by (λ i. load.parts i * demand p k i) (activities p) ≤ load_of p rows k from to (activities p)
 load_most p arcs rows k from to load m =
     sum_by-le-each (λ i. load.parts i * demand p k i) (λ i. part_of p rows from to i * demand p k i) (activities p)
     (each_activity p (λ i. load.parts i * demand p k i ≤ part_of p rows from to i * demand p k i) (λ i lt. mul-le-mul_right (demand p k i) (below i lt)))
   where
     below : (i : ℕ) → i < activity_count p → load.parts i ≤ part_of p rows from to i
-    below i lt = ⊎_elim (λ (none : load.parts i ≡ 0). omega arith) (λ (must : MustRun p arcs from to i (load.parts i)). part_most p arcs rows from to i (load.parts i) m lt must) (load.each i lt)
+    below i lt = ⊎_elim (λ (none : load.parts i ≡ 0). omega arith)
+        (λ (must : MustRun p arcs from to i (load.parts i)). part_most p arcs rows from to i (load.parts i) m lt must)
+        (load.each i lt)

@@ -4,15 +4,13 @@ use Rattle.std.specs.List.{AllByRecursion}
 use Rattle.std.proofs.Math.Nat.{mod-lt, mod-one}
 use Rattle.std.proofs.lemmas.Bool.{eq-eqb}
 use Rattle.network.specs.Problem.{Problem}
-use Rattle.record_text.specs.declared.proved.Proved.{Proved}
+use Rattle.network.specs.declared.verdict.Verdict.{Verdict}
 use Rattle.lemma_log.specs.declared.event.Event.{Event}
 use Rattle.lemma_log.specs.declared.event.Event.TheVariants as event
-use Rattle.lemma_log.specs.declared.event.Claim.{Claim}
 use Rattle.lemma_log.specs.Logs.{AreFirst}
 use Rattle.lemma_book.specs.Ledger.{LedgerOf, first_ledger, with_lemma, with_schedule, without_lemma}
 use Rattle.lemma_record.specs.Right.{IsRightText, IsStep, TakesAll, Takes}
 use Rattle.lemma_record.specs.Parts.{IsPart, IsRightTextIn, PartOf, PartsMakeWhole, TakesIf, TakesPart, has, number_after, part_of, whole}
-use Rattle.lemma_record.specs.SoFar.{IsClaimed, IsClaimedIn}
 use Rattle.lemma_record.proofs.Texts.{no_step, same_body, same_event, same_left}
 
 -- ---- what an event makes of a ledger, if it is taken
@@ -43,10 +41,13 @@ has_all event = eq-eqb (event % 1 + 1) 1 (ap (λ (n : ℕ). n + 1) (mod-one even
 
 pub whole_taken : (before : ℕ) (l after : LedgerOf) (events : List Event) → TakesPart whole before l events after → TakesAll l events after
 whole_taken before l after [] taken = taken
-whole_taken before l after (e ∷ events) taken =
-    (taken.0, subst (λ (looks : Bool). TakesIf looks l e taken.0) (has_all (number_after before)) taken.1, whole_taken (before + 1) taken.0 after events taken.2)
+whole_taken before l after (e ∷ events) taken = (
+  taken.0,
+  subst (λ (looks : Bool). TakesIf looks l e taken.0) (has_all (number_after before)) taken.1,
+  whole_taken (before + 1) taken.0 after events taken.2,
+)
 
-pub whole_text : (p : Problem) (text : List ℕ) (c : Claim) → IsRightTextIn whole p text c → IsRightText p text c
+pub whole_text : (p : Problem) (text : List ℕ) (c : Verdict) → IsRightTextIn whole p text c → IsRightText p text c
 whole_text p text c right = record {
   events = right.events;
   spells = right.spells;
@@ -57,13 +58,6 @@ whole_text p text c right = record {
     after = right.right.after;
     taken = whole_taken 0 (first_ledger p) right.right.after right.events right.right.taken;
   };
-}
-
-pub whole_claimed : (part : PartOf) (p : Problem) (text : List ℕ) (what : Proved) → part ≡ whole → IsClaimedIn part p text what → IsClaimed p text what
-whole_claimed part p text what is claimed = record {
-  claim = claimed.claim;
-  right = whole_text p text claimed.claim (subst (λ (q : PartOf). IsRightTextIn q p text claimed.claim) is claimed.right);
-  says = claimed.says;
 }
 
 -- ---- a log in parts
@@ -98,7 +92,7 @@ together count before l (e ∷ events) some made =
         (other.0, subst (λ (m : LedgerOf). TakesPart (part_of number count) (before + 1) m events other.0) same other.1.2)
 
 -- bytes are the text of one log
-same_steps : (all : List ℕ) (steps others : List Event) (c : Claim) →
+same_steps : (all : List ℕ) (steps others : List Event) (c : Verdict) →
     AreFirst all (steps ++ event.Claim c ∷ []) [] → AllByRecursion IsStep steps →
     AreFirst all (others ++ event.Claim c ∷ []) [] → AllByRecursion IsStep others → steps ≡ others
 same_steps all [] [] c first are whole each = refl
@@ -109,16 +103,22 @@ same_steps all (s ∷ steps) [] c first are whole each =
 same_steps all (s ∷ steps) (o ∷ others) c first are whole each =
     let same : s ≡ o = same_event all first.0 whole.0 s o first.1 whole.1 in
     let rest : whole.0 ≡ first.0 = same_left all whole.0 first.0 o s whole.1 first.1 in
-    let more : steps ≡ others = same_steps first.0 steps others c first.2 are.1 (subst (λ (b : List ℕ). AreFirst b (others ++ event.Claim c ∷ []) []) rest whole.2) each.1 in
+    let more : steps ≡ others = same_steps first.0 steps others c first.2 are.1
+    (subst (λ (b : List ℕ). AreFirst b (others ++ event.Claim c ∷ []) []) rest whole.2) each.1 in
     rw (same, more) refl
 
-same_events : (one two : PartOf) (p : Problem) (text : List ℕ) (c : Claim) (first : IsRightTextIn one p text c) (other : IsRightTextIn two p text c) → other.events ≡ first.events
+same_events : (one two : PartOf) (p : Problem) (text : List ℕ) (c : Verdict) (first : IsRightTextIn one p text c)
+    (other : IsRightTextIn two p text c) → other.events ≡ first.events
 same_events one two p text c first other =
     let body : other.spells.body ≡ first.spells.body = same_body text other.spells.body first.spells.body other.spells.title first.spells.title in
     let there : AreFirst first.spells.body (other.right.steps ++ event.Claim c ∷ []) [] =
-    subst (λ (b : List ℕ). AreFirst b (other.right.steps ++ event.Claim c ∷ []) []) body (subst (λ (all : List Event). AreFirst other.spells.body all []) other.right.ends other.spells.first) in
-    let here : AreFirst first.spells.body (first.right.steps ++ event.Claim c ∷ []) [] = subst (λ (all : List Event). AreFirst first.spells.body all []) first.right.ends first.spells.first in
-    let steps : other.right.steps ≡ first.right.steps = same_steps first.spells.body other.right.steps first.right.steps c there other.right.are_steps here first.right.are_steps in
+    subst (λ (b : List ℕ). AreFirst b (other.right.steps ++ event.Claim c ∷ []) []) body
+    (subst (λ (all : List Event). AreFirst other.spells.body all []) other.right.ends other.spells.first) in
+    let here : AreFirst first.spells.body (first.right.steps ++ event.Claim c ∷ []) [] =
+    subst (λ (all : List Event). AreFirst first.spells.body all []) first.right.ends first.spells.first in
+    let steps : other.right.steps ≡ first.right.steps =
+    same_steps first.spells.body other.right.steps first.right.steps c there other.right.are_steps here
+    first.right.are_steps in
     other.right.ends ∙ ap (λ (all : List Event). all ++ event.Claim c ∷ []) steps ∙ sym first.right.ends
 
 pub parts_make_whole : PartsMakeWhole
@@ -134,5 +134,8 @@ parts_make_whole p text c count some right =
     made : (first : IsRightTextIn (part_of 1 count) p text c) → MadeInAll count 0 (first_ledger p) first.events
     made first number is =
         let other = right number is in
-        let same : other.events ≡ first.events = same_events (part_of 1 count) (part_of number count) p text c first other in
-        (other.right.after, subst (λ (events : List Event). TakesPart (part_of number count) 0 (first_ledger p) events other.right.after) same other.right.taken)
+        let same : other.events ≡ first.events = same_events (part_of 1 count) (part_of number count) p text c first other in (
+          other.right.after,
+          subst (λ (events : List Event).
+              TakesPart (part_of number count) 0 (first_ledger p) events other.right.after) same other.right.taken,
+        )

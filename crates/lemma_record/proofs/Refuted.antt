@@ -4,7 +4,7 @@ use Rattle.std.specs.List.{AllByRecursion}
 use Rattle.network.specs.Problem.{Problem}
 use Rattle.lemma_log.specs.declared.event.Event.{Event}
 use Rattle.lemma_log.specs.declared.event.Event.TheVariants as event
-use Rattle.lemma_log.specs.declared.event.Claim.{Claim}
+use Rattle.network.specs.declared.verdict.Verdict.{Verdict}
 use Rattle.lemma_log.specs.Text.{title_text}
 use Rattle.lemma_log.specs.Reading.{read_in}
 use Rattle.lemma_log.specs.Logs.{AreFirst}
@@ -22,7 +22,8 @@ use Rattle.lemma_record.proofs.Titles.{title_there}
 -- ---- one event
 
 -- an event that is taken is not wrong
-taken_right : (l after : LedgerOf) (left rest : List ℕ) (e : Event) (w : Wrong) → read_in left ≡ Ok (record { value = e; left = rest }) → Takes l e after → IsWrongNext l left w → ⊥
+taken_right : (l after : LedgerOf) (left rest : List ℕ) (e : Event) (w : Wrong)
+    → read_in left ≡ Ok (record { value = e; left = rest }) → Takes l e after → IsWrongNext l left w → ⊥
 taken_right l after left rest e w read takes (inl short) = let is = short.1 in cc
 taken_right l after left rest e w read takes (inr (inl (inl form))) = let is = form.1 in cc
 taken_right l after left rest e w read takes (inr (inl (inr long))) = let is = long.1 in cc
@@ -31,7 +32,7 @@ taken_right l after left rest e w read takes (inr (inr not)) =
 
 -- ---- several
 
-wrong_within : (part : PartOf) (before : ℕ) (l m after : LedgerOf) (all left : List ℕ) (steps others : List Event) (c : Claim) (w : Wrong) →
+wrong_within : (part : PartOf) (before : ℕ) (l m after : LedgerOf) (all left : List ℕ) (steps others : List Event) (c : Verdict) (w : Wrong) →
     AreFirst all steps left → AllByRecursion IsStep steps → TakesPart part before l steps m →
     AreFirst all (others ++ event.Claim c ∷ []) [] → AllByRecursion IsStep others → TakesAll l (others ++ event.Claim c ∷ []) after →
     IsWrongNext m left w → ⊥
@@ -48,12 +49,13 @@ wrong_within part before l m after all left (s ∷ steps) [] c w first are taken
 wrong_within part before l m after all left (s ∷ steps) (o ∷ others) c w first are taken whole each right wrong =
     let same : o ≡ s = same_event all whole.0 first.0 o s whole.1 first.1 in
     let rest : whole.0 ≡ first.0 = same_left all whole.0 first.0 o s whole.1 first.1 in
-    let next : right.0 ≡ taken.0 = one_after true (has part (number_after before)) l right.0 taken.0 s (subst (λ (e : Event). Takes l e right.0) same right.1) taken.1 in
+    let next : right.0 ≡ taken.0 = one_after true (has part (number_after before)) l right.0 taken.0 s
+    (subst (λ (e : Event). Takes l e right.0) same right.1) taken.1 in
     wrong_within part (before + 1) taken.0 m after first.0 left steps others c w first.2 are.1 taken.2
     (subst (λ (b : List ℕ). AreFirst b (others ++ event.Claim c ∷ []) []) rest whole.2) each.1
     (subst (λ (n : LedgerOf). TakesAll n (others ++ event.Claim c ∷ []) after) next right.2) wrong
 
-none_after : (all left : List ℕ) (steps others : List Event) (c d : Claim) →
+none_after : (all left : List ℕ) (steps others : List Event) (c d : Verdict) →
     AreFirst all (steps ++ event.Claim c ∷ []) left → AllByRecursion IsStep steps →
     AreFirst all (others ++ event.Claim d ∷ []) [] → AllByRecursion IsStep others → left ≡ []
 none_after all left [] [] c d first are whole each =
@@ -80,23 +82,29 @@ title_right text body wrong.Schedule is h = h
 title_right text body wrong.Claim is h = h
 title_right text body wrong.Memory is h = h
 
-next_right : (part : PartOf) (p : Problem) (text : List ℕ) (fault : EventFault) (c : Claim) → IsNextFault part p text fault → IsRightText p text c → ⊥
+next_right : (part : PartOf) (p : Problem) (text : List ℕ) (fault : EventFault) (c : Verdict) → IsNextFault part p text fault → IsRightText p text c → ⊥
 next_right part p text fault c found right =
     let ends = right.right.ends in
-    let body : right.spells.body ≡ found.leads.begins.body = same_body text right.spells.body found.leads.begins.body right.spells.title found.leads.begins.title in
+    let body : right.spells.body ≡ found.leads.begins.body =
+    same_body text right.spells.body found.leads.begins.body right.spells.title found.leads.begins.title in
     let whole : AreFirst found.leads.begins.body (right.right.steps ++ event.Claim c ∷ []) [] =
-    subst (λ (b : List ℕ). AreFirst b (right.right.steps ++ event.Claim c ∷ []) []) body (subst (λ (all : List Event). AreFirst right.spells.body all []) ends right.spells.first) in
-    let taken : TakesAll (first_ledger p) (right.right.steps ++ event.Claim c ∷ []) right.right.after = subst (λ (all : List Event). TakesAll (first_ledger p) all right.right.after) ends right.right.taken in
+    subst (λ (b : List ℕ). AreFirst b (right.right.steps ++ event.Claim c ∷ []) []) body
+    (subst (λ (all : List Event). AreFirst right.spells.body all []) ends right.spells.first) in
+    let taken : TakesAll (first_ledger p) (right.right.steps ++ event.Claim c ∷ []) right.right.after =
+    subst (λ (all : List Event). TakesAll (first_ledger p) all right.right.after) ends right.right.taken in
     wrong_within part 0 (first_ledger p) found.ledger right.right.after found.leads.begins.body found.left found.steps right.right.steps c fault.wrong
     found.leads.begins.first found.leads.are_steps found.leads.taken whole right.right.are_steps taken found.next
 
-trailing_right : (part : PartOf) (p : Problem) (text : List ℕ) (fault : EventFault) (c : Claim) → IsTrailing part p text fault → IsRightText p text c → ⊥
+trailing_right : (part : PartOf) (p : Problem) (text : List ℕ) (fault : EventFault) (c : Verdict) → IsTrailing part p text fault → IsRightText p text c → ⊥
 trailing_right part p text fault c found right =
     let body : right.spells.body ≡ found.begins.body = same_body text right.spells.body found.begins.body right.spells.title found.begins.title in
     let whole : AreFirst found.begins.body (right.right.steps ++ event.Claim c ∷ []) [] =
-    subst (λ (b : List ℕ). AreFirst b (right.right.steps ++ event.Claim c ∷ []) []) body (subst (λ (all : List Event). AreFirst right.spells.body all []) right.right.ends right.spells.first) in
-    let first : AreFirst found.begins.body (found.right.steps ++ event.Claim found.claim ∷ []) found.left = subst (λ (all : List Event). AreFirst found.begins.body all found.left) found.right.ends found.begins.first in
-    found.more (none_after found.begins.body found.left found.right.steps right.right.steps found.claim c first found.right.are_steps whole right.right.are_steps)
+    subst (λ (b : List ℕ). AreFirst b (right.right.steps ++ event.Claim c ∷ []) []) body
+    (subst (λ (all : List Event). AreFirst right.spells.body all []) right.right.ends right.spells.first) in
+    let first : AreFirst found.begins.body (found.right.steps ++ event.Claim found.claim ∷ []) found.left =
+    subst (λ (all : List Event). AreFirst found.begins.body all found.left) found.right.ends found.begins.first in
+    found.more (none_after found.begins.body found.left found.right.steps right.right.steps found.claim c first
+    found.right.are_steps whole right.right.are_steps)
 
 pub fault_is_wrong : FaultIsWrong
 fault_is_wrong part p text fault c (inl title) right = title_right text right.spells.body fault.wrong right.spells.title title.title

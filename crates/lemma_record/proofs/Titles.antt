@@ -1,5 +1,6 @@
 -- Which bytes begin with the title of a log.
-use Rattle.std.proofs.Common.{◌≡◌, ◌≤◌, arith, Bool, true, false, ℕ, List, [], ◌∷◌, ◌++◌, if◌then◌else◌, length, drop, Result, Ok, Err, ◌⊎◌, inl, inr, ⊎_elim, refl, sym, ap, ◌∙◌, append_assoc}
+use Rattle.std.proofs.Common.{◌≡◌, ◌≤◌, arith, Bool, true, false, ℕ, List, [], ◌∷◌, ◌++◌, if◌then◌else◌, length, drop}
+use Rattle.std.proofs.Common.{Result, Ok, Err, ◌⊎◌, inl, inr, ⊎_elim, refl, sym, ap, ◌∙◌, append_assoc}
 use Rattle.std.specs.Prelude.{nat_eq}
 use Rattle.std.specs.List.{starts_with}
 use Rattle.std.proofs.lemmas.Bool.{false≢true}
@@ -65,7 +66,8 @@ either_first (h ∷ a) x (k ∷ b) y is =
 
 -- bytes that begin with no title begin with none where more follow
 pub form_stays : (bytes more : List ℕ) → title_in bytes ≡ Err Form → title_in (bytes ++ more) ≡ Err Form
-form_stays bytes more h = is_form (starts_with nat_eq (bytes ++ more) title_text) (starts_with nat_eq title_text (bytes ++ more)) (never _ no_title) (never _ no_end)
+form_stays bytes more h = is_form (starts_with nat_eq (bytes ++ more) title_text)
+    (starts_with nat_eq title_text (bytes ++ more)) (never _ no_title) (never _ no_end)
   where
     none : (starts_with nat_eq bytes title_text ≡ false) × (starts_with nat_eq title_text bytes ≡ false)
     none = by_form (starts_with nat_eq bytes title_text) (starts_with nat_eq title_text bytes) h
@@ -84,7 +86,8 @@ form_stays bytes more h = is_form (starts_with nat_eq (bytes ++ more) title_text
         (either_first bytes more title_text (drop (length title_text) (bytes ++ more)) (started (bytes ++ more) title_text begins))
 
     no_end : ¬ (starts_with nat_eq title_text (bytes ++ more) ≡ true)
-    no_end ends = not_last (more ++ drop (length (bytes ++ more)) title_text) (started title_text (bytes ++ more) ends ∙ append_assoc bytes more (drop (length (bytes ++ more)) title_text))
+    no_end ends = not_last (more ++ drop (length (bytes ++ more)) title_text)
+        (started title_text (bytes ++ more) ends ∙ append_assoc bytes more (drop (length (bytes ++ more)) title_text))
 
 is_ok : (begins ends : Bool) → begins ≡ true → title_by begins ends ≡ Ok (length title_text)
 is_ok true ends h = refl

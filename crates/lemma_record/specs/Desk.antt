@@ -53,7 +53,11 @@ pub record MayProve (x : PremisesOf) (lemma : Lemma) : Type 0 where
 abbrev pub Proves : DeskOf → Lemma → Bool → DeskOf → Type 0
 Proves old lemma true new =
     MayProve old.premises lemma
-    × ((places : List ℕ) × (new ≡ record { premises = shelved old.premises lemma.slot lemma.arcs; proved = old.proved ++ record lemma { lines = picked lemma.lines places } ∷ [] }))
+    × ((places : List ℕ) × (new ≡ record {
+      premises = shelved old.premises lemma.slot lemma.arcs;
+      proved =
+          old.proved ++ record lemma { lines = picked lemma.lines places } ∷ [];
+    }))
 Proves old lemma false new = (¬ MayProve old.premises lemma) × (new ≡ old)
 
 -- the slot is one of the limit, and no lemma that waits may use what is in it

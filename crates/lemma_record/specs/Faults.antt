@@ -4,7 +4,7 @@ use Rattle.std.specs.List.{AllByRecursion}
 use Rattle.network.specs.Problem.{Problem}
 use Rattle.lemma_log.specs.declared.event.Event.{Event}
 use Rattle.lemma_log.specs.declared.event.Event.TheVariants as event
-use Rattle.lemma_log.specs.declared.event.Claim.{Claim}
+use Rattle.network.specs.declared.verdict.Verdict.{Verdict}
 use Rattle.lemma_log.specs.declared.fault.DecodeFault.TheVariants as reading
 use Rattle.lemma_log.specs.Reading.{read_in, title_in}
 use Rattle.lemma_log.specs.Logs.{Begins}
@@ -75,7 +75,7 @@ pub record IsNextFault (part : PartOf) (p : Problem) (text : List ℕ) (fault : 
 -- after events that are right, of which the last is a claim, come further bytes
 pub record IsTrailing (part : PartOf) (p : Problem) (text : List ℕ) (fault : EventFault) : Type 0 where
   pub events : List Event
-  pub claim : Claim
+  pub claim : Verdict
   pub left : List ℕ
   pub begins : Begins text events left
   pub right : IsRightIn part p events claim
@@ -89,4 +89,4 @@ IsFirstFault part p text fault = IsTitleFault text fault ⊎ IsNextFault part p 
 
 -- a text that has a first fault is not that of a right log
 abbrev pub FaultIsWrong : Type 0
-FaultIsWrong = (part : PartOf) (p : Problem) (text : List ℕ) (fault : EventFault) (c : Claim) → IsFirstFault part p text fault → ¬ IsRightText p text c
+FaultIsWrong = (part : PartOf) (p : Problem) (text : List ℕ) (fault : EventFault) (c : Verdict) → IsFirstFault part p text fault → ¬ IsRightText p text c

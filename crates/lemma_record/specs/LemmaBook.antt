@@ -1,17 +1,17 @@
 -- What a book keeps: a ledger, and the log of all that it took.
-use Rattle.std.specs.Prelude.{◌≡◌, ◌⊎◌, Bool, true, false, ℕ, ℤ, List, Vec, Option, None, Some, IfSome, IsSome, IsNone}
+use Rattle.std.specs.Prelude.{◌≡◌, ◌⊎◌, Bool, true, false, ℕ, ℤ, List, Vec, Option, None, Some, IfSome, IsSome, IsNone, ◌++◌}
 use Rattle.std.specs.List.{AllByRecursion}
 use Rattle.std.specs.declared.alloc.Global.{Global}
-use Rattle.record_text.specs.FirstWrong.{IsFactOf}
-use Rattle.lemma_log.specs.declared.event.Claim.{Claim}
+use Rattle.network.specs.Schedule.{IsFeasible, IsTrueVerdict}
+use Rattle.lemma_record.specs.declared.book.Shown.{Shown}
+use Rattle.network.specs.declared.verdict.Verdict.{Verdict}
 use Rattle.lemma_log.specs.declared.event.Event.{Event}
 use Rattle.network.specs.Problem.{Problem}
 use Rattle.lemma_log.specs.Text.{IsWritable, IsWritableBody, title_text}
 use Rattle.lemma_log.specs.Logs.{log_text}
 use Rattle.lemma_book.specs.Ledger.{LedgerOf, first_ledger}
-use Rattle.record_text.specs.declared.proved.Proved.{Proved}
 use Rattle.lemma_record.specs.Right.{IsRightText}
-use Rattle.lemma_record.specs.Right.{IsStep, Takes, TakesAll, proved_of}
+use Rattle.lemma_record.specs.Right.{IsStep, Takes, TakesAll}
 
 -- a ledger, and the text of the log so far; none once memory ran out for it
 pub record BookOf : Type 0 where
@@ -53,11 +53,14 @@ IsCutShort old e new = (new ≡ old) ⊎ (Takes old.ledger e new.ledger × IsNon
 -- ---- What a book shows in the end.
 
 -- the log claims what is proved, and is right for the project, of which that is true
-pub record IsProof (p : Problem) (log : List ℕ) (what : Proved) : Type 0 where
-  pub claim : Claim
-  pub right : IsRightText p log claim
-  pub says : what ≡ proved_of claim
-  pub fact : IsFactOf p what
+pub record IsProof (p : Problem) (log : List ℕ) (what : Verdict) : Type 0 where
+  pub right : IsRightText p log what
+  pub fact : IsTrueVerdict p what
+
+-- What is shown in the end, after a log: with its last bytes the log proves it, and the best schedule is feasible.
+pub record IsShownOf (p : Problem) (log : List ℕ) (shown : Shown) : Type 0 where
+  pub proof : IsProof p (log ++ shown.end.items) shown.proved
+  pub feasible : IfSome shown.best (λ starts. IsFeasible p starts.items)
 
 -- the starts are those of the best schedule, if there is one
 abbrev pub IsBest : LedgerOf → Option (Vec ℤ Global) → Type 0

@@ -4,7 +4,7 @@ use Rattle.std.specs.List.{AllByRecursion}
 use Rattle.network.specs.Problem.{Problem}
 use Rattle.lemma_log.specs.declared.event.Event.{Event}
 use Rattle.lemma_log.specs.declared.event.Event.TheVariants as event
-use Rattle.lemma_log.specs.declared.event.Claim.{Claim}
+use Rattle.network.specs.declared.verdict.Verdict.{Verdict}
 use Rattle.lemma_log.specs.Logs.{Spells}
 use Rattle.lemma_book.specs.Ledger.{LedgerOf, MayKeep, first_ledger, with_lemma}
 use Rattle.lemma_record.specs.Right.{IsRightText, IsStep, Takes}
@@ -53,7 +53,7 @@ TakesPart part before l (e ∷ events) after =
     (next : LedgerOf) × TakesIf (has part (number_after before)) l e next × TakesPart part (before + 1) next events after
 
 -- the events of a log are right in this part: the last is this claim, no other is a claim, and they are taken
-pub record IsRightIn (part : PartOf) (p : Problem) (events : List Event) (c : Claim) : Type 0 where
+pub record IsRightIn (part : PartOf) (p : Problem) (events : List Event) (c : Verdict) : Type 0 where
   pub steps : List Event
   pub are_steps : AllByRecursion IsStep steps
   pub ends : events ≡ steps ++ event.Claim c ∷ []
@@ -61,7 +61,7 @@ pub record IsRightIn (part : PartOf) (p : Problem) (events : List Event) (c : Cl
   pub taken : TakesPart part 0 (first_ledger p) events after
 
 -- the text is that of a log that is right in this part, and claims this
-pub record IsRightTextIn (part : PartOf) (p : Problem) (text : List ℕ) (c : Claim) : Type 0 where
+pub record IsRightTextIn (part : PartOf) (p : Problem) (text : List ℕ) (c : Verdict) : Type 0 where
   pub events : List Event
   pub spells : Spells text events
   pub right : IsRightIn part p events c
@@ -69,5 +69,5 @@ pub record IsRightTextIn (part : PartOf) (p : Problem) (text : List ℕ) (c : Cl
 -- a log that is right in all parts is right
 abbrev pub PartsMakeWhole : Type 0
 PartsMakeWhole =
-    (p : Problem) (text : List ℕ) (c : Claim) (count : ℕ) → 1 ≤ count →
+    (p : Problem) (text : List ℕ) (c : Verdict) (count : ℕ) → 1 ≤ count →
     ((number : ℕ) → IsPart (part_of number count) → IsRightTextIn (part_of number count) p text c) → IsRightText p text c

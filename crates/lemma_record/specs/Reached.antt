@@ -1,29 +1,27 @@
 -- How far a log is checked that comes piece by piece.
 use Rattle.std.specs.Prelude.{Bool, ◌≡◌, ◌⊎◌, ℕ, List, [], length, Ok, Err, Option, None, Some, MatchOption}
 use Rattle.network.specs.Problem.{Problem}
-use Rattle.record_text.specs.declared.proved.Proved.{Proved}
+use Rattle.network.specs.declared.verdict.Verdict.{Verdict}
 use Rattle.lemma_log.specs.declared.event.Event.{Event}
 use Rattle.lemma_log.specs.declared.event.Event.TheVariants as event
-use Rattle.lemma_log.specs.declared.event.Claim.{Claim}
 use Rattle.lemma_log.specs.declared.fault.DecodeFault.TheVariants.{Short}
 use Rattle.lemma_log.specs.Reading.{read_in, title_in}
 use Rattle.lemma_log.specs.Logs.{Begins}
 use Rattle.lemma_book.specs.Ledger.{LedgerOf, first_ledger}
-use Rattle.lemma_record.specs.Right.{proved_of}
 use Rattle.lemma_record.specs.Parts.{IsRightIn, PartOf, TakesIf, number_after}
 use Rattle.lemma_record.specs.Faults.{LeadsTo}
 
 -- ---- one event
 
 -- what an event claims
-abbrev pub claimed : Event → Option Proved
+abbrev pub claimed : Event → Option Verdict
 claimed (event.Lemma slot arcs lines) = None
 claimed (event.Drop slot) = None
 claimed (event.Schedule starts) = None
-claimed (event.Claim c) = Some (proved_of c)
+claimed (event.Claim c) = Some c
 
 -- an event comes first, it is taken, its lines being looked at or not, it claims this, and these bytes are left
-pub record TakesNext (looks : Bool) (old : LedgerOf) (bytes : List ℕ) (claim : Option Proved) (left : List ℕ) (new : LedgerOf) : Type 0 where
+pub record TakesNext (looks : Bool) (old : LedgerOf) (bytes : List ℕ) (claim : Option Verdict) (left : List ℕ) (new : LedgerOf) : Type 0 where
   pub next : Event
   pub read : read_in bytes ≡ Ok (record { value = next; left = left })
   pub takes : TakesIf looks old next new
@@ -38,13 +36,11 @@ pub record IsAt (part : PartOf) (p : Problem) (text : List ℕ) (l : LedgerOf) (
   pub number : due ≡ number_after (length steps)
 
 -- the text is right events, of which the last claims this, and bytes that are left; this number would be due
-pub record HasClaimed (part : PartOf) (p : Problem) (text left : List ℕ) (what : Proved) (due : ℕ) : Type 0 where
+pub record HasClaimed (part : PartOf) (p : Problem) (text left : List ℕ) (what : Verdict) (due : ℕ) : Type 0 where
   pub events : List Event
-  pub claim : Claim
   pub begins : Begins text events left
-  pub right : IsRightIn part p events claim
+  pub right : IsRightIn part p events what
   pub number : due ≡ number_after (length events)
-  pub says : what ≡ proved_of claim
 
 -- ---- what is kept between pieces
 
@@ -54,9 +50,9 @@ pub record CheckerOf : Type 0 where
   pub ledger : LedgerOf
   pub left : List ℕ
   pub due : ℕ
-  pub proved : Option Proved
+  pub proved : Option Verdict
 
-abbrev pub checker_of : PartOf → LedgerOf → List ℕ → ℕ → Option Proved → CheckerOf
+abbrev pub checker_of : PartOf → LedgerOf → List ℕ → ℕ → Option Verdict → CheckerOf
 checker_of part ledger left due proved = record { part = part; ledger = ledger; left = left; due = due; proved = proved }
 
 -- the title is due

@@ -1,22 +1,13 @@
 -- When a log of lemmas is right for a project, and what it proves.
 use Rattle.std.specs.Prelude.{◌≡◌, ℕ, List, [], ◌∷◌, ◌++◌}
 use Rattle.std.specs.List.{AllByRecursion}
+use Rattle.network.specs.Schedule.{IsTrueVerdict}
 use Rattle.network.specs.Problem.{IsProject, Problem}
-use Rattle.record_text.specs.FirstWrong.{IsFactOf}
-use Rattle.record_text.specs.declared.proved.Proved.{Proved}
-use Rattle.record_text.specs.declared.proved.Proved.TheVariants as proved
+use Rattle.network.specs.declared.verdict.Verdict.{Verdict}
 use Rattle.lemma_log.specs.declared.event.Event.{Event}
 use Rattle.lemma_log.specs.declared.event.Event.TheVariants as event
-use Rattle.lemma_log.specs.declared.event.Claim.{Claim}
-use Rattle.lemma_log.specs.declared.event.Claim.TheVariants as claim
 use Rattle.lemma_log.specs.Logs.{Spells}
 use Rattle.lemma_book.specs.Ledger.{Claims, IsFilled, LedgerOf, MayLead, MayTake, first_ledger, with_lemma, with_schedule, without_lemma}
-
--- what is claimed
-abbrev pub proved_of : Claim → Proved
-proved_of (claim.Optimal makespan) = proved.Optimal makespan
-proved_of (claim.Bound bound) = proved.Bound bound
-proved_of claim.NoSchedule = proved.NoSchedule
 
 -- What an event makes of a ledger. A lemma is taken if it may be, a drop if the slot is filled, and a schedule if it may
 -- lead. A claim is taken if the ledger claims it, and nothing changes.
@@ -24,7 +15,7 @@ abbrev pub Takes : LedgerOf → Event → LedgerOf → Type 0
 Takes l (event.Lemma slot arcs lines) after = MayTake l slot arcs lines × (after ≡ with_lemma l slot arcs)
 Takes l (event.Drop slot) after = IsFilled l.lemmas slot × (after ≡ without_lemma l slot)
 Takes l (event.Schedule starts) after = MayLead l starts × (after ≡ with_schedule l starts)
-Takes l (event.Claim c) after = Claims l (proved_of c) × (after ≡ l)
+Takes l (event.Claim c) after = Claims l c × (after ≡ l)
 
 -- events are taken one after another
 abbrev pub TakesAll : LedgerOf → List Event → LedgerOf → Type 0
@@ -40,7 +31,7 @@ IsStep (event.Claim c) = ⊥
 
 -- The events of a log are right for a project: the last is this claim, no other is a claim, and they are taken one after
 -- another from the first ledger.
-pub record IsRight (p : Problem) (events : List Event) (c : Claim) : Type 0 where
+pub record IsRight (p : Problem) (events : List Event) (c : Verdict) : Type 0 where
   pub steps : List Event
   pub are_steps : AllByRecursion IsStep steps
   pub ends : events ≡ steps ++ event.Claim c ∷ []
@@ -48,11 +39,11 @@ pub record IsRight (p : Problem) (events : List Event) (c : Claim) : Type 0 wher
   pub taken : TakesAll (first_ledger p) events after
 
 -- the text is that of a right log, which claims this
-pub record IsRightText (p : Problem) (text : List ℕ) (c : Claim) : Type 0 where
+pub record IsRightText (p : Problem) (text : List ℕ) (c : Verdict) : Type 0 where
   pub events : List Event
   pub spells : Spells text events
   pub right : IsRight p events c
 
 -- what a right log claims is true of its project
 abbrev pub ClaimIsTrue : Type 0
-ClaimIsTrue = (p : Problem) (events : List Event) (c : Claim) → IsProject p → IsRight p events c → IsFactOf p (proved_of c)
+ClaimIsTrue = (p : Problem) (events : List Event) (c : Verdict) → IsProject p → IsRight p events c → IsTrueVerdict p c

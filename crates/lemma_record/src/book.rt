@@ -1,18 +1,15 @@
 //! A ledger, and the log of all that it took.
 
 ghost use Rattle.std.specs.Prelude.{◌≡◌, ◌↔◌, ◌++◌, [], None, Some, IfOk, IfSome, IfNone, OnErr, MatchOption, IsSomeAnd, IsTrue};
-ghost use Rattle.lemma_book.specs.Ledger.{IsSmall};
-ghost use Rattle.lemma_record.specs.LemmaBook.{IsBest, IsCutShort, IsLogOf, IsProof, Offers, first_book};
-ghost use Rattle.lemma_record.specs.Right.{IsStep, proved_of};
-ghost use Rattle.lemma_log.specs.Text.{IsWritableClaim};
+ghost use Rattle.lemma_record.specs.LemmaBook.{IsBest, IsCutShort, IsLogOf, IsShownOf, Offers, first_book};
+ghost use Rattle.lemma_record.specs.Right.{IsStep};
 
 use crate::logging::log_event;
 use crate::taking::take;
 use crate::{Blank, Growing, Naming, Taken};
 use lemma_book::Ledger;
-use lemma_log::{Claim, Event, is_writable, put_event, put_title};
-use network::Project;
-use record_text::Proved;
+use lemma_log::{Event, is_writable, put_event, put_title};
+use network::{Project, Verdict};
 use std::alloc::{AllocError, Global};
 use std::marker::Model;
 
@@ -48,23 +45,11 @@ fn is_step(event: &Event) -> bool
     !matches!(event, Event::Claim(_))
 }
 
-/// The claim of a log.
-fn claim_of(proved: Proved) -> Claim
-    ensures claim { proved_of result ≡ proved }
-    ensures writable { IsSmall proved → IsWritableClaim result }
-{
-    match proved {
-        Proved::Optimal { makespan } => Claim::Optimal { makespan },
-        Proved::Bound { bound } => Claim::Bound { bound },
-        Proved::NoSchedule => Claim::NoSchedule,
-    }
-}
-
 /// What a book shows in the end.
 #[derive(Drop, Debug)]
 pub struct Shown {
     /// What is proved.
-    pub proved: Proved,
+    pub proved: Verdict,
     /// The starts of the best schedule by activity, in periods.
     pub best: Option<Vec<i64>>,
     /// The bytes that end the log: the claim of what is proved.
@@ -146,10 +131,10 @@ impl<'a, J: Naming> LemmaBook<'a, J> {
     }
 
     /// What is proved in the end: the claim that the book makes, which is true of its project, and ends the log of all
-    /// that it took, which proves it.
+    /// that it took, which proves it. The best schedule is feasible.
     pub fn close(self) -> Result<Shown, AllocError>
         ensures proof { IfOk result (λ shown. IsSomeAnd self.entry.log (λ log.
-            IsProof self.entry.ledger.project (log ++ shown.end.items) shown.proved)) }
+            IsShownOf self.entry.ledger.project log shown)) }
         ensures best { IfOk result (λ shown. IsBest self.entry.ledger shown.best) }
     {
         let LemmaBook { alloc, ledger, log } = self;
@@ -158,7 +143,7 @@ impl<'a, J: Naming> LemmaBook<'a, J> {
         };
         let proved = ledger.claim();
         let mut end = Vec::new(alloc);
-        put_event(&mut end, &Event::Claim(claim_of(proved)))?;
+        put_event(&mut end, &Event::Claim(proved))?;
         let best = starts_of(alloc, ledger.best())?;
         Ok(Shown { proved, best, end })
     }

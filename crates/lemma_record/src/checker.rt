@@ -7,16 +7,16 @@ ghost use Rattle.lemma_log.specs.Reading.{title_in};
 ghost use Rattle.lemma_record.specs.declared.fault.Wrong.TheVariants as wrongs;
 ghost use Rattle.lemma_record.specs.Faults.{IsFirstFault};
 ghost use Rattle.lemma_record.specs.Reached.{HasChecked, IsAt, IsAtTitle};
-ghost use Rattle.lemma_record.specs.Parts.{whole};
-ghost use Rattle.lemma_record.specs.SoFar.{IsClaimed, IsClaimedIn, IsProvedSoFar};
+ghost use Rattle.lemma_record.specs.Parts.{IsRightTextIn, whole};
+ghost use Rattle.lemma_record.specs.Right.{IsRightText};
+ghost use Rattle.lemma_record.specs.SoFar.{IsProvedSoFar};
 
 use crate::fault::{EventFault, NO_MEMORY, Wrong};
 use crate::next::{nothing_after, take_whole};
 use crate::part::LogPart;
 use lemma_book::Draft;
 use lemma_log::{DecodeFault, is_cut_off, read_title};
-use network::Project;
-use record_text::Proved;
+use network::{Project, Verdict};
 use std::alloc::{AllocError, Global};
 use std::marker::Model;
 
@@ -54,7 +54,7 @@ pub struct Checker<'a> {
     /// The number of the event that is due; that of the title is 0.
     due: u64,
     /// What was claimed.
-    proved: Option<Proved>,
+    proved: Option<Verdict>,
 }
 
 impl<'a> Model for Checker<'a> {
@@ -143,11 +143,11 @@ impl<'a> Checker<'a> {
     }
 
     /// What the log proves, which ends here.
-    pub fn finish(&self) -> Result<Proved, EventFault>
+    pub fn finish(&self) -> Result<Verdict, EventFault>
         ensures right { IfOk result (λ proved. (p : Problem) (text : List ℕ) → HasChecked p text self.now
-            → IsClaimedIn self.now.part p text proved) }
+            → IsRightTextIn self.now.part p text proved) }
         ensures whole { IfOk result (λ proved. self.now.part ≡ whole → (p : Problem) (text : List ℕ)
-            → HasChecked p text self.now → IsClaimed p text proved) }
+            → HasChecked p text self.now → IsRightText p text proved) }
         ensures fault { IfErr result (λ fault. (p : Problem) (text : List ℕ) → HasChecked p text self.now
             → IsFirstFault self.now.part p text fault) }
         ensures short { IfErr result (λ fault. fault.wrong ≡ wrongs.Short) }
@@ -163,7 +163,7 @@ impl<'a> Checker<'a> {
 
     /// What is proved so far, if all of the log is checked: what it claims, and where no claim has come what is claimed
     /// there.
-    pub fn proved(&self) -> Proved
+    pub fn proved(&self) -> Verdict
         ensures { self.now.part ≡ whole → (p : Problem) (text : List ℕ) → HasChecked p text self.now
             → IsProvedSoFar p text result }
     {

@@ -4,7 +4,6 @@ ghost use Rattle.std.specs.Prelude.{◌≡◌, IfOk};
 ghost use Rattle.lemma_log.specs.declared.event.Event.TheVariants as events;
 ghost use Rattle.lemma_record.specs.Taking.{Judges};
 
-use crate::taking::proved_of;
 use lemma_book::Draft;
 use lemma_log::Event;
 use lemma_proof::{Lags, Line};
@@ -41,6 +40,6 @@ pub(crate) fn judge(draft: &mut Draft<'_>, looks: bool, event: Event) -> Result<
         }
         Event::Drop { slot } => Ok(draft.let_go(slot)),
         Event::Schedule { starts } => draft.schedule(starts),
-        Event::Claim(claim) => Ok(draft.claim() == proved_of(&claim)),
+        Event::Claim(claim) => Ok(draft.claim() == claim),
     }
 }

@@ -15,10 +15,9 @@ ghost use Rattle.lemma_record.specs.Reached.{HasClaimed, HasChecked, IsAt, Takes
 use crate::fault::{EventFault, NO_MEMORY, Wrong};
 use crate::judging::judge;
 use crate::part::LogPart;
-use crate::taking::proved_of;
 use lemma_book::Draft;
 use lemma_log::{DecodeFault, Event, Read, read_event};
-use record_text::Proved;
+use network::Verdict;
 use std::alloc::Global;
 
 /// What is wrong with an event that is not taken.
@@ -34,14 +33,14 @@ fn wrong_of(event: &Event) -> Wrong
 }
 
 /// What an event claims.
-fn claimed(event: &Event) -> Option<Proved>
+fn claimed(event: &Event) -> Option<Verdict>
     ensures { result ≡ claimed event.now }
 {
     match event {
         Event::Lemma { .. } => None,
         Event::Drop { .. } => None,
         Event::Schedule { .. } => None,
-        Event::Claim(claim) => Some(proved_of(claim)),
+        Event::Claim(claim) => Some(*claim),
     }
 }
 
@@ -73,7 +72,7 @@ fn take_read(
     looks: bool,
     event: Event,
     due: u64,
-) -> Result<Option<Proved>, EventFault>
+) -> Result<Option<Verdict>, EventFault>
     ensures taken { IfOk result (λ claim. TakesIf looks draft.old event draft.new × (claim ≡ claimed event)) }
     ensures refused { IfErr result (λ fault. fault.wrong ≢ Memory
         → (fault ≡ record { event = due; wrong = wrong_of event }) × ((after : LedgerOf) → ¬ Takes draft.old event after)) }
@@ -95,7 +94,7 @@ fn take_next<'t>(
     part: &LogPart,
     bytes: &'t [u8],
     due: u64,
-) -> Result<Option<(Option<Proved>, &'t [u8])>, EventFault>
+) -> Result<Option<(Option<Verdict>, &'t [u8])>, EventFault>
     ensures taken { IfOk result (λ found. MatchOption found
         ((read_in bytes.now ≡ Err read_faults.Short) × (draft.new ≡ draft.old))
         (λ r. TakesNext (has part.now due) draft.old bytes.now r.0 r.1.now draft.new)) }
@@ -134,11 +133,11 @@ pub(crate) struct ReadEnd<'t> {
     /// The number of the event that would be next.
     pub(crate) due: u64,
     /// What was claimed, if a claim came.
-    pub(crate) proved: Option<Proved>,
+    pub(crate) proved: Option<Verdict>,
 }
 
 /// That a claim, after which this number is due, is the end of the bytes.
-fn ended<'t>(left: &'t [u8], due: u64, proved: Proved) -> Result<ReadEnd<'t>, EventFault>
+fn ended<'t>(left: &'t [u8], due: u64, proved: Verdict) -> Result<ReadEnd<'t>, EventFault>
     ensures read { IfOk result (λ stop. (part : PartOf) (p : Problem) (text : List ℕ) (l : LedgerOf)
         → HasClaimed part p text left.now proved due
         → HasChecked p text (checker_of part l stop.left.now stop.due stop.proved)) }

@@ -2,28 +2,15 @@
 
 ghost use Rattle.std.specs.Prelude.{◌≡◌, ◌↔◌, IfOk, OnErr, MatchOption, IsTrue};
 ghost use Rattle.lemma_log.specs.declared.event.Event.TheVariants as events;
-ghost use Rattle.lemma_record.specs.Right.{proved_of};
 ghost use Rattle.lemma_record.specs.Taking.{IsRefused, IsTaken};
 
 use crate::copies::picked;
 use lemma_book::Ledger;
-use lemma_log::{Claim, Event};
+use lemma_log::Event;
 use lemma_proof::{Lags, Line};
-use record_text::{Proved, Starts};
+use network::Verdict;
+use record_text::Starts;
 use std::alloc::{AllocError, Global};
-
-/// What is claimed.
-pub(crate) fn proved_of(claim: &Claim) -> Proved
-    ensures { result ≡ proved_of claim.now }
-{
-    match claim {
-        Claim::Optimal { makespan } => Proved::Optimal {
-            makespan: *makespan,
-        },
-        Claim::Bound { bound } => Proved::Bound { bound: *bound },
-        Claim::NoSchedule => Proved::NoSchedule,
-    }
-}
 
 /// Takes a lemma, if it may be taken.
 fn take_lemma(
@@ -82,11 +69,11 @@ fn take_schedule(
 }
 
 /// Takes a claim, if the ledger claims it.
-fn take_claim(ledger: &Ledger<'_>, claim: Claim) -> Option<Event>
+fn take_claim(ledger: &Ledger<'_>, claim: Verdict) -> Option<Event>
     ensures { MatchOption result (IsRefused ledger.now (events.Claim claim) ledger.now)
         (λ logged. IsTaken ledger.now (events.Claim claim) logged ledger.now) }
 {
-    if ledger.claim() == proved_of(&claim) {
+    if ledger.claim() == claim {
         Some(Event::Claim(claim))
     } else {
         None

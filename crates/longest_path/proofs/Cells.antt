@@ -1,9 +1,13 @@
 -- The laws of rows that stand one after another in one list of cells.
-use Rattle.std.proofs.Common.{◌≡◌, ◌≢◌, refl, sym, ◌∙◌, ap, subst, ℕ, ◌+◌, ◌*◌, ◌-◌, ◌<◌, ◌≤◌, Option, None, Some, true, ◌⊎◌, inl, inr, arith, ℤ, pos, ◌+ℤ◌, ◌≤ℤ◌, ◌<ℤ◌, List, [], ◌++◌, length, get_or, set, take, drop, get_or-set_same, get_or-set_other, suc, ◌/◌, replicate, length-append, length-drop, neg_ℤ, int_lt, if◌then◌else◌, IfSome, FitsSigned}
+use Rattle.std.proofs.Common.{◌≡◌, ◌≢◌, refl, sym, ◌∙◌, ap, subst, ℕ, ◌+◌, ◌*◌, ◌-◌, ◌<◌, ◌≤◌, Option, None, Some, true}
+use Rattle.std.proofs.Common.{◌⊎◌, inl, inr, arith, ℤ, pos, ◌+ℤ◌, ◌≤ℤ◌, ◌<ℤ◌, List, [], ◌++◌, length, get_or, set, take}
+use Rattle.std.proofs.Common.{drop, get_or-set_same, get_or-set_other, suc, ◌/◌, replicate, length-append, length-drop}
+use Rattle.std.proofs.Common.{neg_ℤ, int_lt, if◌then◌else◌, IfSome, FitsSigned}
 use Rattle.std.proofs.Math.Nat.{mul-le-mul_right, suc-mul}
 use Rattle.std.proofs.lemmas.Nat.{div-mul-add}
 use Rattle.std.proofs.Math.ListN.{get_or-eq_default}
-use Rattle.std.proofs.lemmas.List.{get_or-append_right, get_or_append_left, get_or-take, get_or-drop, length-take-le, get_or_default, get_or-replicate, drop-drop, length-replicate}
+use Rattle.std.proofs.lemmas.List.{get_or-append_right, get_or_append_left, get_or-take, get_or-drop, length-take-le}
+use Rattle.std.proofs.lemmas.List.{get_or_default, get_or-replicate, drop-drop, length-replicate}
 use borrow.Rule.Slice.PartMut.{put_mid}
 use Rattle.std.proofs.lemmas.List.Elements.{All-from_get_or}
 use Rattle.std.specs.Int.{w32}
@@ -12,7 +16,8 @@ use Rattle.std.proofs.lemmas.Int.{ints}
 use Rattle.std.proofs.lemmas.List.FromFn.{get_or-map-range_with_len, length-map-range_with_len}
 use Rattle.network.specs.declared.parts.Lag.{Lag}
 use Rattle.network.specs.Walk.{entry, Rows}
-use Rattle.longest_path.specs.Matrix.{greater, joined, IsSquare, IsRaised, IsRelaxed, IsRow, IsRowRelaxed, HasSmallSums, nothing, weight_of, weight_at, placed_at, row_of, rows_of}
+use Rattle.longest_path.specs.Matrix.{greater, joined, IsSquare, IsRaised, IsRelaxed, IsRow, IsRowRelaxed, HasSmallSums}
+use Rattle.longest_path.specs.Matrix.{nothing, weight_of, weight_at, placed_at, row_of, rows_of}
 use Rattle.longest_path.proofs.Reach.{greater_none}
 use Rattle.network.specs.declared.limits.TheConstants.{MAX_LAG_WEIGHT, MAX_WALK_WEIGHT}
 use Rattle.network.specs.Problem.{IsWithin}
@@ -77,7 +82,9 @@ pub weight_at_far : (cells : List ℤ) (k : ℕ) → length cells ≤ k → weig
 weight_at_far cells k far = ap weight_of (get_or-eq_default cells nothing far)
 
 -- two lists of cells that agree at the places of an entry
-pub same_entry : (n a b : ℕ) (old new : List ℤ) → (a < n → b < n → get_or new (a * n + b) nothing ≡ get_or old (a * n + b) nothing) → entry (rows_of n new) a b ≡ entry (rows_of n old) a b
+pub same_entry : (n a b : ℕ) (old new : List ℤ)
+    → (a < n → b < n → get_or new (a * n + b) nothing ≡ get_or old (a * n + b) nothing)
+    → entry (rows_of n new) a b ≡ entry (rows_of n old) a b
 same_entry n a b old new same = elim (cases_lt a n) [
   | inl la ↦ elim (cases_lt b n) [
     | inl lb ↦ entry-rows_of n a b new la lb ∙ ap weight_of (same la lb) ∙ sym (entry-rows_of n a b old la lb)
@@ -112,10 +119,12 @@ outside_row n a x b lb ne = elim (cases_lt x a) [
       inr (omega arith)
 ]
 
-pub relaxed_rows : (n a : ℕ) (first : ℤ) (via old new : List ℤ) → a < n → length via ≤ n → IsRowRelaxed n a first via old new → IsRelaxed a first via (rows_of n old) (rows_of n new)
+pub relaxed_rows : (n a : ℕ) (first : ℤ) (via old new : List ℤ) → a < n → length via ≤ n
+    → IsRowRelaxed n a first via old new → IsRelaxed a first via (rows_of n old) (rows_of n new)
 relaxed_rows n a first via old new la wide r = record {
   at = λ b. elim (cases_lt b n) [
-    | inl lb ↦ entry-rows_of n a b new la lb ∙ r.inside b lb ∙ ap (λ (o : Option ℤ). greater o (joined (Some first) (weight_at via b))) (sym (entry-rows_of n a b old la lb))
+    | inl lb ↦ entry-rows_of n a b new la lb ∙ r.inside b lb
+        ∙ ap (λ (o : Option ℤ). greater o (joined (Some first) (weight_at via b))) (sym (entry-rows_of n a b old la lb))
     | inr gb ↦
         let far : length via ≤ b = omega arith in
         rw (entry_far_column n a b new gb, entry_far_column n a b old gb, weight_at_far via b far) refl
@@ -129,7 +138,8 @@ pub record IsSpliced (A : Type 0) (z : A) (start n : ℕ) (old part new : List A
   pub before : (k : ℕ) → k < start → get_or new k z ≡ get_or old k z
   pub after : (k : ℕ) → start + n ≤ k → get_or new k z ≡ get_or old k z
 
-pub spliced : (A : Type 0) (z : A) (start n : ℕ) (old part new : List A) → start + n ≤ length old → length part ≡ n → new ≡ take start old ++ (part ++ drop (start + n) old) → IsSpliced A z start n old part new
+pub spliced : (A : Type 0) (z : A) (start n : ℕ) (old part new : List A) → start + n ≤ length old → length part ≡ n
+    → new ≡ take start old ++ (part ++ drop (start + n) old) → IsSpliced A z start n old part new
 spliced A z start n old part new low long is = record {
   inside = λ k lk.
       ap (λ (l : List A). get_or l (start + k) z) is
@@ -162,7 +172,8 @@ length-placed_at from cells = length-append (replicate from nothing) cells ∙ a
 pub placed_inside : (from k : ℕ) (cells : List ℤ) → weight_at (placed_at from cells) (from + k) ≡ weight_at cells k
 placed_inside from k cells =
     let gone : from + k - from ≡ k = omega arith in
-    ap weight_of (get_or-append_right (replicate from nothing) cells from (from + k) nothing (length-replicate from nothing) (omega arith) ∙ ap (λ i. get_or cells i nothing) gone)
+    ap weight_of (get_or-append_right (replicate from nothing) cells from (from + k) nothing
+    (length-replicate from nothing) (omega arith) ∙ ap (λ i. get_or cells i nothing) gone)
 
 pub placed_before : (from k : ℕ) (cells : List ℤ) → k < from → weight_at (placed_at from cells) k ≡ None
 placed_before from k cells lt =
@@ -219,7 +230,9 @@ copied_row n a cells row whole la is =
     record {
       long = wide ∙ sym (length-rows_of n cells);
       says = λ b. elim (cases_lt b n) [
-        | inl lb ↦ ap (λ (l : List ℤ). weight_at l b) is ∙ ap weight_of (get_or-take n (drop (a * n) cells) b nothing lb ∙ get_or-drop (a * n) cells b nothing) ∙ sym (entry-rows_of n a b cells la lb)
+        | inl lb ↦ ap (λ (l : List ℤ). weight_at l b) is
+            ∙ ap weight_of (get_or-take n (drop (a * n) cells) b nothing lb ∙ get_or-drop (a * n) cells b nothing)
+            ∙ sym (entry-rows_of n a b cells la lb)
         | inr gb ↦ let far : length row ≤ b = omega arith in weight_at_far row b far ∙ sym (entry_far_column n a b cells gb)
       ];
     }
@@ -235,7 +248,8 @@ square_of n cells rows e =
 pub still_square : (n : ℕ) (cells new : List ℤ) (rows : Rows) → rows_of n cells ≡ rows → IsSquare (length rows) (rows_of n new)
 still_square n cells new rows e = let Q : ℕ → Type 0 = λ m. IsSquare m (rows_of n new) in subst Q (size_of n cells rows e) (IsSquare-rows_of n new)
 
-pub read_cell : (n a b p : ℕ) (cells : List ℤ) (rows : Rows) (z : ℤ) → rows_of n cells ≡ rows → a < n → b < n → p ≡ a * n + b → p < length cells → z ≡ get_or cells p z → weight_of z ≡ entry rows a b
+pub read_cell : (n a b p : ℕ) (cells : List ℤ) (rows : Rows) (z : ℤ) → rows_of n cells ≡ rows → a < n → b < n
+    → p ≡ a * n + b → p < length cells → z ≡ get_or cells p z → weight_of z ≡ entry rows a b
 read_cell n a b p cells rows z view la lb at low is =
     ap weight_of (is ∙ get_or_default cells p z nothing low ∙ ap (λ i. get_or cells i nothing) at)
     ∙ sym (entry-rows_of n a b cells la lb) ∙ ap (λ (r : Rows). entry r a b) view
@@ -244,7 +258,8 @@ if_some : (P : ℤ → Type 0) (o : Option ℤ) → ((y : ℤ) → o ≡ Some y 
 if_some P None h = tt
 if_some P (Some y) h = h y refl
 
-pub small_sum : (first : ℤ) (via : List ℤ) (b : ℕ) → b < length via → HasSmallSums first via → IfSome (weight_of (get_or via b (pos 0))) (λ y. IsWithin MAX_WAY_WEIGHT (first +ℤ y))
+pub small_sum : (first : ℤ) (via : List ℤ) (b : ℕ) → b < length via → HasSmallSums first via
+    → IfSome (weight_of (get_or via b (pos 0))) (λ y. IsWithin MAX_WAY_WEIGHT (first +ℤ y))
 small_sum first via b low h =
     let same : get_or via b (pos 0) ≡ get_or via b nothing = get_or_default via b (pos 0) nothing low in
     if_some (λ y. IsWithin MAX_WAY_WEIGHT (first +ℤ y)) (weight_of (get_or via b (pos 0))) (λ y e. h b y (ap weight_of (sym same) ∙ e))
@@ -255,7 +270,8 @@ pub record IsPartlyRelaxed (b : ℕ) (first : ℤ) (via old row : List ℤ) : Ty
   pub rest : (k : ℕ) → b ≤ k → weight_at row k ≡ weight_at old k
 
 pub partly_more : (b : ℕ) (first z : ℤ) (via old row : List ℤ) → IsPartlyRelaxed b first via old row → b < length row → b < length via →
-    weight_of z ≡ greater (weight_of (get_or row b (pos 0))) (joined (Some first) (weight_of (get_or via b (pos 0)))) → IsPartlyRelaxed (b + 1) first via old (set row b z)
+    weight_of z ≡ greater (weight_of (get_or row b (pos 0))) (joined (Some first) (weight_of (get_or via b (pos 0))))
+    → IsPartlyRelaxed (b + 1) first via old (set row b z)
 partly_more b first z via old row h low wide new = record {
   done = λ k less. elim (cases_eq k b) [
     | inl e ↦ rw e (ap weight_of (get_or-set_same row b z nothing low) ∙ new
@@ -267,18 +283,27 @@ partly_more b first z via old row h low wide new = record {
   rest = λ k more. let ne : k ≢ b = omega arith in ap weight_of (get_or-set_other row b k z nothing ne) ∙ h.rest k (omega arith);
 }
 
-pub relaxed_part : (n a from start count : ℕ) (first : ℤ) (via old part : List ℤ) → start ≡ a * n + from → count ≡ length via → a * n + n ≤ length old → from + length via ≤ n → length part ≡ length via →
-    ((k : ℕ) → weight_at part k ≡ greater (weight_at (take count (drop start old)) k) (joined (Some first) (weight_at via k))) → IsRowRelaxed n a first (placed_at from via) old (put_mid start count old part)
+pub relaxed_part : (n a from start count : ℕ) (first : ℤ) (via old part : List ℤ) → start ≡ a * n + from
+    → count ≡ length via → a * n + n ≤ length old → from + length via ≤ n → length part ≡ length via →
+    ((k : ℕ) → weight_at part k ≡ greater (weight_at (take count (drop start old)) k)
+    (joined (Some first) (weight_at via k)))
+    → IsRowRelaxed n a first (placed_at from via) old (put_mid start count old part)
 relaxed_part n a from start count first via old part at all low inside long through =
-    let same : (k : ℕ) → weight_at part k ≡ greater (weight_at (take (length via) (drop (a * n + from) old)) k) (joined (Some first) (weight_at via k)) = rw (at, all) at through in
-    let is : put_mid (a * n + from) (length via) old part ≡ take (a * n + from) old ++ (part ++ drop (a * n + from + length via) old) = ap (λ t. take (a * n + from) old ++ (part ++ t)) (drop-drop (length via) (a * n + from) old) in
+    let same : (k : ℕ) → weight_at part k ≡ greater (weight_at (take (length via) (drop (a * n + from) old)) k)
+    (joined (Some first) (weight_at via k)) = rw (at, all) at through in
+    let is : put_mid (a * n + from) (length via) old part ≡ take (a * n + from) old ++
+    (part ++ drop (a * n + from + length via) old) =
+    ap (λ t. take (a * n + from) old ++ (part ++ t)) (drop-drop (length via) (a * n + from) old) in
     rw (at, all) (spliced_row n a from first via old part (put_mid (a * n + from) (length via) old part) low inside long same is)
 
-pub copied_view : (n a : ℕ) (cells row : List ℤ) (rows : Rows) → rows_of n cells ≡ rows → length cells ≡ n * n → a < n → row ≡ take n (drop (a * n) cells) → IsRow a rows row
+pub copied_view : (n a : ℕ) (cells row : List ℤ) (rows : Rows) → rows_of n cells ≡ rows → length cells ≡ n * n → a < n
+    → row ≡ take n (drop (a * n) cells) → IsRow a rows row
 copied_view n a cells row rows view whole la is = let P : Rows → Type 0 = λ r. IsRow a r row in subst P view (copied_row n a cells row whole la is)
 
-pub relaxed_view : (n a : ℕ) (first : ℤ) (via old new : List ℤ) (rows : Rows) → rows_of n old ≡ rows → a < n → length via ≤ n → IsRowRelaxed n a first via old new → IsRelaxed a first via rows (rows_of n new)
-relaxed_view n a first via old new rows view la wide r = let P : Rows → Type 0 = λ r. IsRelaxed a first via r (rows_of n new) in subst P view (relaxed_rows n a first via old new la wide r)
+pub relaxed_view : (n a : ℕ) (first : ℤ) (via old new : List ℤ) (rows : Rows) → rows_of n old ≡ rows → a < n
+    → length via ≤ n → IsRowRelaxed n a first via old new → IsRelaxed a first via rows (rows_of n new)
+relaxed_view n a first via old new rows view la wide r = let P : Rows → Type 0 = λ r.
+    IsRelaxed a first via r (rows_of n new) in subst P view (relaxed_rows n a first via old new la wide r)
 
 some_light : (w : ℤ) → IsWithin MAX_LAG_WEIGHT w → weight_of w ≡ Some w
 some_light w light =
@@ -289,13 +314,17 @@ some_light w light =
     int_lt-yes : (x y : ℤ) → x <ℤ y → int_lt x y ≡ true
     int_lt-yes x y lt = grind (arith, ints)
 
-pub raised_view : (n p : ℕ) (e : Lag) (w z : ℤ) (cells : List ℤ) (rows : Rows) → rows_of n cells ≡ rows → length cells ≡ n * n → e.from < n → e.to < n → p ≡ e.from * n + e.to → IsWithin MAX_LAG_WEIGHT e.weight →
+pub raised_view : (n p : ℕ) (e : Lag) (w z : ℤ) (cells : List ℤ) (rows : Rows) → rows_of n cells ≡ rows
+    → length cells ≡ n * n → e.from < n → e.to < n → p ≡ e.from * n + e.to → IsWithin MAX_LAG_WEIGHT e.weight →
     z ≡ get_or cells p z → weight_of w ≡ greater (weight_of z) (weight_of e.weight) → IsRaised e rows (rows_of n (set cells p w))
 raised_view n p e w z cells rows view whole lf lt at light read new =
     let low : e.from * n + e.to < n * n = place_low n e.from e.to lf lt in
     let inside : p < length cells = omega arith in
-    let cell : weight_of z ≡ weight_at cells (e.from * n + e.to) = ap weight_of (read ∙ get_or_default cells p z nothing inside ∙ ap (λ i. get_or cells i nothing) at) in
-    let is : weight_of w ≡ greater (weight_at cells (e.from * n + e.to)) (Some e.weight) = new ∙ ap (λ (o : Option ℤ). greater o (weight_of e.weight)) cell ∙ ap (λ (o : Option ℤ). greater (weight_at cells (e.from * n + e.to)) o) (some_light e.weight light) in
+    let cell : weight_of z ≡ weight_at cells (e.from * n + e.to) =
+    ap weight_of (read ∙ get_or_default cells p z nothing inside ∙ ap (λ i. get_or cells i nothing) at) in
+    let is : weight_of w ≡ greater (weight_at cells (e.from * n + e.to)) (Some e.weight) = new
+    ∙ ap (λ (o : Option ℤ). greater o (weight_of e.weight)) cell
+    ∙ ap (λ (o : Option ℤ). greater (weight_at cells (e.from * n + e.to)) o) (some_light e.weight light) in
     let P : Rows → Type 0 = λ r. IsRaised e r (rows_of n (set cells p w)) in
     subst P view (rw at (raised_cell n e w cells whole lf lt is))
 

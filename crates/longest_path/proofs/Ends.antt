@@ -1,5 +1,6 @@
 -- What the entries of a matrix from the start and to the end say: earliest starts and tails.
-use Rattle.std.proofs.Common.{◌≡◌, refl, ℕ, ◌+◌, ◌<◌, ◌≤◌, zero, suc, inl, inr, arith, ℤ, pos, ◌≤ℤ◌, List, [], ◌∷◌, map, Option, None, Some, length, sym, ap, ◌-◌, ◌+ℤ◌, ◌-ℤ◌, IfSome, FitsSigned}
+use Rattle.std.proofs.Common.{◌≡◌, refl, ℕ, ◌+◌, ◌<◌, ◌≤◌, zero, suc, inl, inr, arith, ℤ, pos, ◌≤ℤ◌, List, [], ◌∷◌, map}
+use Rattle.std.proofs.Common.{Option, None, Some, length, sym, ap, ◌-◌, ◌+ℤ◌, ◌-ℤ◌, IfSome, FitsSigned}
 use Rattle.std.proofs.lemmas.Int.{ints}
 use Rattle.std.specs.List.{Contains, range_with_len, All}
 use Rattle.std.proofs.lemmas.Bool.{cases_eq}
@@ -7,7 +8,8 @@ use Rattle.std.proofs.lemmas.List.Elements.{Contains-append_right, All-from_get_
 use Rattle.std.proofs.lemmas.List.FromFn.{get_or-map-range_with_len, length-map-range_with_len}
 use Rattle.network.specs.declared.parts.Lag.{Lag}
 use Rattle.network.specs.declared.parts.Pair.{Pair}
-use Rattle.network.specs.Problem.{Problem, activity_count, end_of, duration, start_arc, end_arc, implied_arcs, arcs_of, IsProject, IsWithin, IsBetween, IsTime, IsAmount}
+use Rattle.network.specs.Problem.{Problem, activity_count, end_of, duration, start_arc, end_arc, implied_arcs, arcs_of}
+use Rattle.network.specs.Problem.{IsProject, IsWithin, IsBetween, IsTime, IsAmount}
 use Rattle.network.specs.Walk.{IsProjectMatrix, IsWalk, weight, entry, IsGreatestWeight, Rows, weights_from}
 use Rattle.network.proofs.FaultLaws.{AreLight-arcs_of}
 use Rattle.longest_path.proofs.Bound.{IsMatrixOf-within}
@@ -31,7 +33,12 @@ pub record Spans (arcs : List Lag) (a b : ℕ) (w : ℤ) : Type 0 where
 -- the start reaches each activity
 pub from_start : (p : Problem) (pairs : List Pair) (i : ℕ) → i < activity_count p → Spans (arcs_of p pairs) 0 i (pos 0)
 from_start p pairs zero lt = record { walk = []; goes = refl; weighs = omega (arith, ints) }
-from_start p pairs (suc i) lt = record { walk = start_arc (suc i) ∷ []; goes = (rule_contains p pairs (start_arc (suc i)) (start_rule p i lt), refl, refl); weighs = omega (arith, ints) }
+from_start p pairs (suc i) lt = record {
+  walk = start_arc (suc i) ∷ [];
+  goes =
+      (rule_contains p pairs (start_arc (suc i)) (start_rule p i lt), refl, refl);
+  weighs = omega (arith, ints);
+}
 
 -- each activity reaches the end, no sooner than it ends
 pub to_end : (p : Problem) (pairs : List Pair) (i : ℕ) → IsProject p → i < activity_count p → Spans (arcs_of p pairs) i (end_of p) (duration p i)
@@ -46,7 +53,10 @@ to_end p pairs i is lt =
           let len = length-map-range_with_len (end_arc p) 0 (end_of p) in
           let here : Contains (map (end_arc p) (range_with_len 0 (end_of p))) (end_arc p i) =
           (i, rw len low, get_or-map-range_with_len (end_arc p) 0 (end_of p) i i (end_arc p i) low (omega arith)) in
-          let there = rule_contains p pairs (end_arc p i) (Contains-append_right p.lags (implied_arcs p) (end_arc p i) (Contains-append_right (map start_arc (range_with_len 1 (end_of p))) (map (end_arc p) (range_with_len 0 (end_of p))) (end_arc p i) here)) in
+          let there = rule_contains p pairs (end_arc p i)
+          (Contains-append_right p.lags (implied_arcs p) (end_arc p i)
+          (Contains-append_right (map start_arc (range_with_len 1 (end_of p)))
+          (map (end_arc p) (range_with_len 0 (end_of p))) (end_arc p i) here)) in
           record { walk = end_arc p i ∷ []; goes = (there, refl, refl); weighs = omega (arith, ints) }
     ]
 
@@ -70,7 +80,9 @@ reached arcs a b (Some v) w g s =
 pub entry_limit : (p : Problem) (pairs : List Pair) (rows : Rows) → IsProjectMatrix p pairs rows →
     (a b : ℕ) (w : ℤ) → a < activity_count p → b < activity_count p → entry rows a b ≡ Some w → w ≤ℤ MAX_WALK_WEIGHT
 entry_limit p pairs rows m a b w la lb e =
-    let within : IsWithin (most_weight (activity_count p + 1)) w = IsMatrixOf-within (arcs_of p pairs) (activity_count p) rows (AreLight-arcs_of p pairs m.limits m.named) m.matrix a b w la lb e in
+    let within : IsWithin (most_weight (activity_count p + 1)) w =
+    IsMatrixOf-within (arcs_of p pairs) (activity_count p) rows (AreLight-arcs_of p pairs m.limits m.named) m.matrix
+    a b w la lb e in
     let few : activity_count p ≤ MAX_ACTIVITIES = m.limits.activity_limit in
     omega (arith, ints)
 
@@ -94,7 +106,8 @@ weights_range p pairs rows m =
     let long : length (weights_from 0 rows) ≡ length rows = length-map-range_with_len (λ b. unwrap_or (entry rows 0 b) (pos 0)) 0 (length rows) in
     let low : i < length rows = rw long at lt in
     let inside : i < activity_count p = rw m.matrix.square.0 at low in
-    rw (get_or-map-range_with_len (λ b. unwrap_or (entry rows 0 b) (pos 0)) 0 (length rows) i i (pos 0) low (omega arith)) (weight_range p pairs rows m i inside))
+    rw (get_or-map-range_with_len (λ b. unwrap_or (entry rows 0 b) (pos 0)) 0 (length rows) i i (pos 0) low
+    (omega arith)) (weight_range p pairs rows m i inside))
 
 pub AreEarliest-weights : (p : Problem) (pairs : List Pair) (rows : Rows) → IsProjectMatrix p pairs rows → AreEarliest p pairs (weights_from 0 rows)
 AreEarliest-weights p pairs rows m =
@@ -135,7 +148,8 @@ tail_lasts : (p : Problem) (pairs : List Pair) (rows : Rows) → IsProjectMatrix
     (s : List ℤ) → IsSchedule p s → KeepsAll p s pairs → (i : ℕ) → i < activity_count p → ((start s i +ℤ duration p i) +ℤ tail_weight p rows i) ≤ℤ makespan s
 tail_lasts p pairs rows m s schedule keeps i lt =
     let at = weight_to_end p pairs rows m i lt in
-    let h : (start s i +ℤ weight at.walk) ≤ℤ start s (end_of p) = walk_holds (arcs_of p pairs) s (arcs_met p pairs s schedule keeps) i (end_of p) at.walk at.goes in
+    let h : (start s i +ℤ weight at.walk) ≤ℤ start s (end_of p) =
+    walk_holds (arcs_of p pairs) s (arcs_met p pairs s schedule keeps) i (end_of p) at.walk at.goes in
     let w : weight at.walk ≡ at.value = at.weighs in
     let last : start s (end_of p) ≡ makespan s = ap (λ n. start s (n - 1)) (sym schedule.whole) in
     rw at.is (omega (arith, ints))

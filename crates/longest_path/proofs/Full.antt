@@ -19,7 +19,9 @@ full_over e rows full a b la lb =
     let long = length-rows_over e rows in
     let low_a : a < length rows = rw long at la in
     let low_b : b < length rows = rw long at lb in
-    rw (entry-rows_over e rows a b low_a low_b) (greater-kept (neg_ℤ MAX_WALK_WEIGHT) (entry rows a b) (joined (weight_over e rows a) (entry rows e.to b)) (full a b low_a low_b))
+    rw (entry-rows_over e rows a b low_a low_b)
+    (greater-kept (neg_ℤ MAX_WALK_WEIGHT) (entry rows a b) (joined (weight_over e rows a) (entry rows e.to b))
+    (full a b low_a low_b))
 
 -- why an arc may be inserted into a matrix
 pub record IsLightWith (e : Lag) (rows : Rows) (m : IsMatrix rows) : Type 0 where
@@ -32,20 +34,27 @@ why_may e rows m may =
     (λ (light : IsWithin MAX_LAG_WEIGHT e.weight).
     ⊎_elim
     (λ (arcs : AreLight m.arcs). inl (record { arcs = arcs; light = light }))
-    (λ (full : IsFull rows). inr (record { light = record { at_least = omega (arith, ints, light.at_least); at_most = omega (arith, ints, light.at_most) }; full = full_over e rows full }))
+    (λ (full : IsFull rows). inr (record {
+      light =
+          record { at_least = omega (arith, ints, light.at_least); at_most = omega (arith, ints, light.at_most) };
+      full =
+          full_over e rows full;
+    }))
     m.light)
     (λ (fills : FillsRows e rows). inr fills)
     may
 
 -- ---- with such an arc
 
-over_reaches : (e : Lag) (rows : Rows) → FillsRows e rows → (a b : ℕ) → a < length rows → b < length rows → Reaches (neg_ℤ MAX_WALK_WEIGHT) (entry_over e rows a b)
+over_reaches : (e : Lag) (rows : Rows) → FillsRows e rows → (a b : ℕ) → a < length rows → b < length rows
+    → Reaches (neg_ℤ MAX_WALK_WEIGHT) (entry_over e rows a b)
 over_reaches e rows fills a b la lb =
     let long = length-rows_over e rows in
     rw (entry-rows_over e rows a b la lb) at (fills.full a b (rw long la) (rw long lb))
 
 -- the way back from the arc's end was there
-way_back : (e : Lag) (rows : Rows) → FillsRows e rows → GainsNothing e rows → e.to < length rows → (a : ℕ) → a < length rows → Reaches (neg_ℤ MAX_WALK_WEIGHT) (entry rows e.to a)
+way_back : (e : Lag) (rows : Rows) → FillsRows e rows → GainsNothing e rows → e.to < length rows → (a : ℕ)
+    → a < length rows → Reaches (neg_ℤ MAX_WALK_WEIGHT) (entry rows e.to a)
 way_back e rows fills gains lt a la =
     let r = over_reaches e rows fills e.to a lt la in
     let low : neg_ℤ MAX_WALK_WEIGHT ≤ℤ r.0 = r.2 in
@@ -59,7 +68,8 @@ way_back e rows fills gains lt a la =
     ]
 
 -- what a way over the arc gains is a weight of a walk
-gained : (e : Lag) (rows : Rows) (m : IsMatrix rows) → e.from < length rows → e.to < length rows → FillsRows e rows → GainsNothing e rows → (a : ℕ) (w : ℤ) → EndGains e rows a w → IsWithin MAX_WALK_WEIGHT w
+gained : (e : Lag) (rows : Rows) (m : IsMatrix rows) → e.from < length rows → e.to < length rows → FillsRows e rows
+    → GainsNothing e rows → (a : ℕ) (w : ℤ) → EndGains e rows a w → IsWithin MAX_WALK_WEIGHT w
 gained e rows m lf lt fills gains a w g =
     let square : IsSquare (length rows) rows = square_of rows m in
     let parts = joined-parts w (entry rows a e.from) (Some e.weight) g.over in
@@ -70,7 +80,9 @@ gained e rows m lf lt fills gains a w g =
     let back_low : neg_ℤ MAX_WALK_WEIGHT ≤ℤ back.0 = back.2 in
     let round = transitive (length rows) m.arcs rows m.matrix e.to a e.from back.0 parts.0 back.1 parts.2 in
     let round_le : (back.0 +ℤ parts.0) ≤ℤ round.0 = round.2 in
-    let closed : (round.0 +ℤ e.weight) ≤ℤ pos 0 = gains (round.0 +ℤ e.weight) (joined-some round.0 e.weight (entry rows e.to e.from) (Some e.weight) round.1 refl) in
+    let closed : (round.0 +ℤ e.weight) ≤ℤ pos 0 =
+    gains (round.0 +ℤ e.weight) (joined-some round.0 e.weight (entry rows e.to e.from) (Some e.weight) round.1 refl)
+    in
     let stays : entry rows e.to e.to ≡ Some (pos 0) = diagonal_at rows e.to e.to (entry rows e.to e.to) m lt refl refl in
     let r = over_reaches e rows fills a e.to la lt in
     let low : neg_ℤ MAX_WALK_WEIGHT ≤ℤ r.0 = r.2 in
@@ -78,18 +90,22 @@ gained e rows m lf lt fills gains a w g =
     ⊎_elim
     (λ (old : entry rows a e.to ≡ Some r.0). by_lt_z r.0 w (λ less. omega (arith, ints)) (λ reached. absurd (g.more (r.0, old, reached))))
     (λ (new : (joined (weight_over e rows a) (entry rows e.to e.to) ≡ Some r.0) × (Reaches r.0 (entry rows a e.to) → ⊥)).
-    let sum : r.0 ≡ w +ℤ pos 0 = same_some r.0 (w +ℤ pos 0) (joined (weight_over e rows a) (entry rows e.to e.to)) new.0 (joined-some w (pos 0) (weight_over e rows a) (entry rows e.to e.to) g.over stays) in
+    let sum : r.0 ≡ w +ℤ pos 0 = same_some r.0 (w +ℤ pos 0) (joined (weight_over e rows a) (entry rows e.to e.to)) new.0
+    (joined-some w (pos 0) (weight_over e rows a) (entry rows e.to e.to) g.over stays) in
     omega (arith, ints))
     (greater-cases r.0 (entry rows a e.to) (joined (weight_over e rows a) (entry rows e.to e.to)) r.1) in
     record { at_least = least; at_most = omega (arith, ints) }
 
 -- of full rows
-still_full : (n : ℕ) (e : Lag) (rows new : Rows) → length rows ≡ n → IsMatrix rows → e.from < n → e.to < n → FillsRows e rows → GainsNothing e rows → IsSquare n new → ((a b : ℕ) → IsEntryOver e rows a b (entry new a b)) → IsMatrix new
+still_full : (n : ℕ) (e : Lag) (rows new : Rows) → length rows ≡ n → IsMatrix rows → e.from < n → e.to < n
+    → FillsRows e rows → GainsNothing e rows → IsSquare n new → ((a b : ℕ) → IsEntryOver e rows a b (entry new a b))
+    → IsMatrix new
 still_full n e rows new long m lf lt fills gains square over =
     let old : IsMatrixOf n m.arcs rows = rw long at m.matrix in
     let is : IsMatrixOf n (m.arcs ++ e ∷ []) new = adds n e rows new lf lt gains square over m.arcs old in
     let same : length new ≡ n = square.rows_long in
-    let full : (a b : ℕ) → a < n → b < n → Reaches (neg_ℤ MAX_WALK_WEIGHT) (entry new a b) = λ a b la lb. rw (over a b) (over_reaches e rows fills a b (rw long la) (rw long lb)) in
+    let full : (a b : ℕ) → a < n → b < n → Reaches (neg_ℤ MAX_WALK_WEIGHT) (entry new a b) = λ a b la lb.
+    rw (over a b) (over_reaches e rows fills a b (rw long la) (rw long lb)) in
     let whole : IsMatrixOf (length new) (m.arcs ++ e ∷ []) new = rw same is in
     record {
       arcs = m.arcs ++ e ∷ [];
@@ -116,11 +132,15 @@ still_full n e rows new long m lf lt fills gains square over =
 
 -- ---- either way
 
-pub still_matrix : (n : ℕ) (e : Lag) (rows new : Rows) → length rows ≡ n → (m : IsMatrix rows) → e.from < n → e.to < n → IsLightWith e rows m ⊎ FillsRows e rows → GainsNothing e rows → IsSquare n new → ((a b : ℕ) → IsEntryOver e rows a b (entry new a b)) → IsMatrix new
+pub still_matrix : (n : ℕ) (e : Lag) (rows new : Rows) → length rows ≡ n → (m : IsMatrix rows) → e.from < n → e.to < n
+    → IsLightWith e rows m ⊎ FillsRows e rows → GainsNothing e rows → IsSquare n new
+    → ((a b : ℕ) → IsEntryOver e rows a b (entry new a b)) → IsMatrix new
 still_matrix n e rows new long m lf lt (inl light) gains square over = still_light n e rows new long m light.arcs lf lt light.light gains square over
 still_matrix n e rows new long m lf lt (inr fills) gains square over = still_full n e rows new long m lf lt fills gains square over
 
-pub first_fits : (e : Lag) (rows : Rows) (m : IsMatrix rows) → e.from < length rows → e.to < length rows → IsLightWith e rows m ⊎ FillsRows e rows → GainsNothing e rows → (a : ℕ) (w : ℤ) → EndGains e rows a w → IsWithin MAX_FIRST_WEIGHT w
+pub first_fits : (e : Lag) (rows : Rows) (m : IsMatrix rows) → e.from < length rows → e.to < length rows
+    → IsLightWith e rows m ⊎ FillsRows e rows → GainsNothing e rows → (a : ℕ) (w : ℤ) → EndGains e rows a w
+    → IsWithin MAX_FIRST_WEIGHT w
 first_fits e rows m lf lt (inl light) gains a w g = first_within (entry rows a e.from) e.weight w g.over (m.within a e.from) light.light
 first_fits e rows m lf lt (inr fills) gains a w g =
     let small : IsWithin MAX_WALK_WEIGHT w = gained e rows m lf lt fills gains a w g in

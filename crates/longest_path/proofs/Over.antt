@@ -1,10 +1,13 @@
 -- A row that takes the way over one arc, entry by entry.
-use Rattle.std.proofs.Common.{◌≡◌, ◌≢◌, refl, sym, ◌∙◌, ap, subst, ℕ, ◌+◌, ◌<◌, ◌≤◌, Option, None, Some, ◌⊎◌, inl, inr, arith, ℤ, ◌+ℤ◌, List, [], ◌++◌, length, ◌-◌, Bool, true, false, ◌≤ℤ◌, ◌<ℤ◌, take, drop, length-drop, FitsSigned, IfSome, Vec, int_lt, if◌then◌else◌}
+use Rattle.std.proofs.Common.{◌≡◌, ◌≢◌, refl, sym, ◌∙◌, ap, subst, ℕ, ◌+◌, ◌<◌, ◌≤◌, Option, None, Some, ◌⊎◌, inl, inr}
+use Rattle.std.proofs.Common.{arith, ℤ, ◌+ℤ◌, List, [], ◌++◌, length, ◌-◌, Bool, true, false, ◌≤ℤ◌, ◌<ℤ◌, take, drop}
+use Rattle.std.proofs.Common.{length-drop, FitsSigned, IfSome, Vec, int_lt, if◌then◌else◌}
 use Rattle.std.proofs.lemmas.Bool.{cases_eq, cases_lt}
 use Rattle.std.proofs.Math.ListN.{get_or-eq_default}
 use Rattle.network.specs.declared.parts.Lag.{Lag}
 use Rattle.network.specs.Walk.{entry, IsMatrixOf, weight, Rows}
-use Rattle.longest_path.specs.Matrix.{greater, joined, Reaches, IsSquare, IsRow, IsRelaxed, HasSmallSums, weight_at, placed_at, IsRowOver, HasEntriesWithin, GainsNothingAt, nothing, weight_of}
+use Rattle.longest_path.specs.Matrix.{greater, joined, Reaches, IsSquare, IsRow, IsRelaxed, HasSmallSums, weight_at}
+use Rattle.longest_path.specs.Matrix.{placed_at, IsRowOver, HasEntriesWithin, GainsNothingAt, nothing, weight_of}
 use Rattle.longest_path.specs.Insert.{EndGains, entry_over, IsEntryOver, IsTransitive, IsReadyRow, IsReady, StartGainsNothing}
 use Rattle.network.proofs.Walks.{IsWalk-append, weight-append}
 use Rattle.longest_path.proofs.OneArc.{IsGreatest-matrix}
@@ -13,7 +16,8 @@ use Rattle.std.specs.Int.{w64}
 use Rattle.std.specs.declared.alloc.Global.{Global}
 use Rattle.std.specs.Vec.{with_items}
 use Rattle.std.proofs.lemmas.List.{with_items_is, get_or-take, get_or-drop, length-take-le}
-use Rattle.longest_path.proofs.Reach.{at_Reaches, Reaches-weaker, greater_none, joined_none, greater_same, same_some, joined-some, joined-parts, int_lt-true, int_lt-false}
+use Rattle.longest_path.proofs.Reach.{at_Reaches, Reaches-weaker, greater_none, joined_none, greater_same, same_some}
+use Rattle.longest_path.proofs.Reach.{joined-some, joined-parts, int_lt-true, int_lt-false}
 use Rattle.longest_path.proofs.Weights.{IsSquare-inside}
 use Rattle.longest_path.proofs.Cells.{placed_inside, column_cases, placed_outside}
 use Rattle.network.specs.declared.limits.TheConstants.{MAX_LAG_WEIGHT, MAX_WALK_WEIGHT}
@@ -90,7 +94,8 @@ half_more n e a via old rows new h transitive holds square r = record {
 }
 
 -- there is no entry below the last row
-pub all_over : (n : ℕ) (e : Lag) (a : ℕ) (old rows : Rows) → IsHalfOver n e a old rows → length old ≡ n → n ≤ a → (x b : ℕ) → IsEntryOver e old x b (entry rows x b)
+pub all_over : (n : ℕ) (e : Lag) (a : ℕ) (old rows : Rows) → IsHalfOver n e a old rows → length old ≡ n → n ≤ a
+    → (x b : ℕ) → IsEntryOver e old x b (entry rows x b)
 all_over n e a old rows h long whole x b = elim (cases_lt x a) [
   | inl lt ↦ h.done x b lt
   | inr ge ↦ let far : length old ≤ x = omega arith in h.rest x b ge ∙ rw (get_or-eq_default old [] far) refl
@@ -102,12 +107,14 @@ pub record IsHalfThrough (n m a : ℕ) (old rows : Rows) : Type 0 where
   pub done : (x b : ℕ) → x < a → entry rows x b ≡ greater (entry old x b) (joined (entry old x m) (entry old m b))
   pub rest : (x b : ℕ) → a ≤ x → entry rows x b ≡ entry old x b
 
-pub through_more : (n m a : ℕ) (via : List ℤ) (old rows new : Rows) → IsHalfThrough n m a old rows → IsRow m old via → IsSquare n new → IsRowOver a (entry rows a m) via rows new → IsHalfThrough n m (a + 1) old new
+pub through_more : (n m a : ℕ) (via : List ℤ) (old rows new : Rows) → IsHalfThrough n m a old rows → IsRow m old via
+    → IsSquare n new → IsRowOver a (entry rows a m) via rows new → IsHalfThrough n m (a + 1) old new
 through_more n m a via old rows new h is square r = record {
   square = square;
   done = λ x b less. elim (cases_eq x a) [
     | inl p ↦ let le : a ≤ a = omega arith in
-        let whole : entry new a b ≡ greater (entry old a b) (joined (entry old a m) (entry old m b)) = rw (h.rest a m le, h.rest a b le, is.says b) at (r.at b) in
+        let whole : entry new a b ≡ greater (entry old a b) (joined (entry old a m) (entry old m b)) =
+        rw (h.rest a m le, h.rest a b le, is.says b) at (r.at b) in
         rw p whole
     | inr ne ↦ let lt : x < a = omega arith in r.others x b ne ∙ h.done x b lt
   ];
@@ -115,13 +122,16 @@ through_more n m a via old rows new h is square r = record {
 }
 
 -- sums of entries are small
-pub small_over : (first : ℤ) (via : List ℤ) (old : Rows) → ((k : ℕ) (y : ℤ) → weight_at via k ≡ Some y → (a : ℕ) × (b : ℕ) × (entry old a b ≡ Some y)) → IsWithin MAX_FIRST_WEIGHT first → HasEntriesWithin MAX_WALK_WEIGHT old → HasSmallSums first via
+pub small_over : (first : ℤ) (via : List ℤ) (old : Rows)
+    → ((k : ℕ) (y : ℤ) → weight_at via k ≡ Some y → (a : ℕ) × (b : ℕ) × (entry old a b ≡ Some y))
+    → IsWithin MAX_FIRST_WEIGHT first → HasEntriesWithin MAX_WALK_WEIGHT old → HasSmallSums first via
 small_over first via old is p within = λ k y e.
     let at = is k y e in
     let q : IsWithin MAX_WALK_WEIGHT y = within at.0 at.1 y at.2 in
     record { at_most = omega (arith, ints); at_least = omega (arith, ints) }
 
-pub small_through : (m a : ℕ) (first : ℤ) (via : List ℤ) (old : Rows) → IsRow m old via → entry old a m ≡ Some first → HasEntriesWithin MAX_WALK_WEIGHT old → HasSmallSums first via
+pub small_through : (m a : ℕ) (first : ℤ) (via : List ℤ) (old : Rows) → IsRow m old via → entry old a m ≡ Some first
+    → HasEntriesWithin MAX_WALK_WEIGHT old → HasSmallSums first via
 small_through m a first via old is at within =
     let p : IsWithin MAX_WALK_WEIGHT first = within a m first at in
     small_over first via old (λ k y e. (m, k, sym (is.says k) ∙ e)) (record { at_most = omega (arith, ints); at_least = omega (arith, ints) }) within
@@ -144,7 +154,8 @@ pub some_small : (o : Option ℤ) (via : List ℤ) → ((x : ℤ) → o ≡ Some
 some_small None via h = tt
 some_small (Some x) via h = h x refl
 
-pub wide_kept : (v : Vec ℤ Global) (cells : List ℤ) (rows : Rows) → length cells ≡ v.len → length cells ≡ length rows → length (with_items v cells).items ≡ length rows
+pub wide_kept : (v : Vec ℤ Global) (cells : List ℤ) (rows : Rows) → length cells ≡ v.len → length cells ≡ length rows
+    → length (with_items v cells).items ≡ length rows
 wide_kept v cells rows same wide = ap length (with_items_is v cells same) ∙ wide
 
 pub some_within : (o : Option ℤ) → ((x : ℤ) → o ≡ Some x → IsWithin MAX_WALK_WEIGHT x) → IfSome o (λ x. IsWithin MAX_FIRST_WEIGHT x)
@@ -156,7 +167,8 @@ some_within (Some x) h =
 pub sum_within : (x w : ℤ) → IsWithin MAX_WALK_WEIGHT x → IsWithin MAX_LAG_WEIGHT w → IsWithin MAX_FIRST_WEIGHT (x +ℤ w)
 sum_within x w p light = record { at_most = omega (arith, ints); at_least = omega (arith, ints) }
 
-pub some_sum_fits : (o : Option ℤ) (w : ℤ) → ((x : ℤ) → o ≡ Some x → IsWithin MAX_WALK_WEIGHT x) → IsWithin MAX_WALK_WEIGHT w → IfSome o (λ x. IfSome (Some w) (λ y. FitsSigned w64 (x +ℤ y)))
+pub some_sum_fits : (o : Option ℤ) (w : ℤ) → ((x : ℤ) → o ≡ Some x → IsWithin MAX_WALK_WEIGHT x)
+    → IsWithin MAX_WALK_WEIGHT w → IfSome o (λ x. IfSome (Some w) (λ y. FitsSigned w64 (x +ℤ y)))
 some_sum_fits None w h light = tt
 some_sum_fits (Some x) w h light = one_sum_fits x w (h x refl) light
 
@@ -165,7 +177,9 @@ held : (e : Lag) (via : List ℤ) (rows : Rows) → HoldsGains e via rows → (b
 held e via rows holds b y h = elim (holds b) [ inl is ↦ sym is ∙ h | inr p ↦ let bad : None ≡ Some y = sym p.0 ∙ h in cc ]
 
 -- a row that was not gone over yet is ready
-pub ready_row : (n a : ℕ) (e : Lag) (from : ℕ) (via : List ℤ) (old rows : Rows) → IsHalfOver n e a old rows → a < n → from + length via ≤ n → HoldsGains e (placed_at from via) old → length old ≡ n → IsReady e old → IsReadyRow a e from via rows
+pub ready_row : (n a : ℕ) (e : Lag) (from : ℕ) (via : List ℤ) (old rows : Rows) → IsHalfOver n e a old rows → a < n
+    → from + length via ≤ n → HoldsGains e (placed_at from via) old → length old ≡ n → IsReady e old
+    → IsReadyRow a e from via rows
 ready_row n a e from via old rows h low inside holds size ready =
     let le : a ≤ a = omega arith in
     let long : length rows ≡ n = h.square.rows_long in
@@ -196,8 +210,10 @@ first_is o w first e =
     let parts = joined-parts first o (Some w) e in
     (parts.0, parts.2, parts.4 ∙ ap (λ t. parts.0 +ℤ t) (same_some parts.1 w (Some w) parts.3 refl))
 
-pub first_within : (o : Option ℤ) (w first : ℤ) → joined o (Some w) ≡ Some first → ((x : ℤ) → o ≡ Some x → IsWithin MAX_WALK_WEIGHT x) → IsWithin MAX_LAG_WEIGHT w → IsWithin MAX_FIRST_WEIGHT first
-first_within o w first e fits light = let is = first_is o w first e in let P : ℤ → Type 0 = λ z. IsWithin MAX_FIRST_WEIGHT z in subst P (sym is.2) (sum_within is.0 w (fits is.0 is.1) light)
+pub first_within : (o : Option ℤ) (w first : ℤ) → joined o (Some w) ≡ Some first
+    → ((x : ℤ) → o ≡ Some x → IsWithin MAX_WALK_WEIGHT x) → IsWithin MAX_LAG_WEIGHT w → IsWithin MAX_FIRST_WEIGHT first
+first_within o w first e fits light = let is = first_is o w first e in let P : ℤ → Type 0 = λ z.
+    IsWithin MAX_FIRST_WEIGHT z in subst P (sym is.2) (sum_within is.0 w (fits is.0 is.1) light)
 
 -- ---- The columns in which the row of an arc's start gains.
 
@@ -220,7 +236,8 @@ match_by P Q true p q = p refl
 match_by P Q false p q = q refl
 
 -- a cell is below the way's where the column gains
-pub gain_test : (first : ℤ) (via row : List ℤ) (b : ℕ) (x way : ℤ) → nothing ≤ℤ x → weight_of x ≡ weight_at row b → weight_of way ≡ joined (Some first) (weight_at via b) →
+pub gain_test : (first : ℤ) (via row : List ℤ) (b : ℕ) (x way : ℤ) → nothing ≤ℤ x → weight_of x ≡ weight_at row b
+    → weight_of way ≡ joined (Some first) (weight_at via b) →
     MatchBool (int_lt x way) (GainsNothingAt first via row b → ⊥) (GainsNothingAt first via row b)
 gain_test first via row b x way low here is = match_by (GainsNothingAt first via row b → ⊥) (GainsNothingAt first via row b) (int_lt x way)
     (λ t none.
@@ -239,10 +256,12 @@ gain_test first via row b x way low here is = match_by (GainsNothingAt first via
     let above : nothing <ℤ way = there.1 in
     (x, sym here ∙ says x (omega (arith, ints)), omega (arith, ints)))
 
-pub one_more : (b : ℕ) (first : ℤ) (via row : List ℤ) → ((k : ℕ) → k < b → GainsNothingAt first via row k) → GainsNothingAt first via row b → (k : ℕ) → k < b + 1 → GainsNothingAt first via row k
+pub one_more : (b : ℕ) (first : ℤ) (via row : List ℤ) → ((k : ℕ) → k < b → GainsNothingAt first via row k)
+    → GainsNothingAt first via row b → (k : ℕ) → k < b + 1 → GainsNothingAt first via row k
 one_more b first via row before here k lt = elim (cases_eq k b) [ inl e ↦ rw e here | inr ne ↦ before k (omega arith) ]
 
-pub one_less : (end : ℕ) (first : ℤ) (via row : List ℤ) → 0 < end → ((k : ℕ) → end ≤ k → GainsNothingAt first via row k) → GainsNothingAt first via row (end - 1) → (k : ℕ) → end - 1 ≤ k → GainsNothingAt first via row k
+pub one_less : (end : ℕ) (first : ℤ) (via row : List ℤ) → 0 < end → ((k : ℕ) → end ≤ k → GainsNothingAt first via row k)
+    → GainsNothingAt first via row (end - 1) → (k : ℕ) → end - 1 ≤ k → GainsNothingAt first via row k
 one_less end first via row some after here k le = elim (cases_eq k (end - 1)) [ inl e ↦ rw e here | inr ne ↦ after k (omega arith) ]
 
 pub small_arc : (e : Lag) (via : List ℤ) (rows : Rows) → IsReady e rows → IsRow e.to rows via → HasSmallSums e.weight via
@@ -250,14 +269,17 @@ small_arc e via rows ready is =
     let light : IsWithin MAX_WALK_WEIGHT e.weight = ready.light in
     small_over e.weight via rows (λ k y h. (e.to, k, sym (is.says k) ∙ h)) (record { at_most = omega (arith, ints); at_least = omega (arith, ints) }) ready.fits
 
-pub start_gains_nothing : (e : Lag) (row via : List ℤ) (rows : Rows) (b : ℕ) → IsRow e.from rows row → IsRow e.to rows via → GainsNothingAt e.weight via row b → StartGainsNothing e rows b
+pub start_gains_nothing : (e : Lag) (row via : List ℤ) (rows : Rows) (b : ℕ) → IsRow e.from rows row
+    → IsRow e.to rows via → GainsNothingAt e.weight via row b → StartGainsNothing e rows b
 start_gains_nothing e row via rows b start end none = λ y h. rw (start.says b) at (none y (end.says b ∙ h))
 
 pub part_long : (from end : ℕ) (via : List ℤ) → from ≤ end → end ≤ length via → length (take (end - from) (drop from via)) ≡ end - from
 part_long from end via low inside = let rest = length-drop from via in length-take-le (end - from) (drop from via) (omega arith)
 
 -- the part of the row of the arc's end that is left
-pub holds_gains : (e : Lag) (from end : ℕ) (via : List ℤ) (rows : Rows) → IsRow e.to rows via → from ≤ end → end ≤ length rows → ((b : ℕ) → b < from → StartGainsNothing e rows b) → ((b : ℕ) → end ≤ b → StartGainsNothing e rows b) →
+pub holds_gains : (e : Lag) (from end : ℕ) (via : List ℤ) (rows : Rows) → IsRow e.to rows via → from ≤ end
+    → end ≤ length rows → ((b : ℕ) → b < from → StartGainsNothing e rows b)
+    → ((b : ℕ) → end ≤ b → StartGainsNothing e rows b) →
     HoldsGains e (placed_at from (take (end - from) (drop from via))) rows
 holds_gains e from end via rows is low inside before after b =
     let long : length via ≡ length rows = is.long in
@@ -266,7 +288,9 @@ holds_gains e from end via rows is low inside before after b =
       | inl out ↦ inr (placed_outside from b (take (end - from) (drop from via)) out, elim out [ inl lt ↦ before b lt | inr ge ↦ after b (omega arith) ])
       | inr p ↦
           let lt : p.0 < end - from = rw count at p.1 in
-          inl (rw p.2 (placed_inside from p.0 (take (end - from) (drop from via)) ∙ ap weight_of (get_or-take (end - from) (drop from via) p.0 nothing lt ∙ get_or-drop from via p.0 nothing) ∙ is.says (from + p.0)))
+          inl (rw p.2 (placed_inside from p.0 (take (end - from) (drop from via))
+          ∙ ap weight_of (get_or-take (end - from) (drop from via) p.0 nothing lt
+          ∙ get_or-drop from via p.0 nothing) ∙ is.says (from + p.0)))
     ]
 
 -- ---- A way over one arc more fits.

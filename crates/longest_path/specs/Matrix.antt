@@ -1,5 +1,7 @@
 -- A matrix of greatest weights: its rows and cells, and the recurrence that makes it.
-use Rattle.std.specs.Prelude.{◌≡◌, ◌≤◌, ℕ, ℤ, List, length, Some, pos, neg_ℤ, ◌<ℤ◌, ◌+ℤ◌, ◌≤ℤ◌, int_lt, Option, None, if◌then◌else◌, ◌≢◌, ◌<◌, ◌+◌, ◌*◌, negsuc, ◌++◌, map, take, drop, replicate, slice_index_or, ◌⊎◌}
+use Rattle.std.specs.Prelude.{◌≡◌, ◌≤◌, ℕ, ℤ, List, length, Some, pos, neg_ℤ, ◌<ℤ◌, ◌+ℤ◌, ◌≤ℤ◌, int_lt, Option, None}
+use Rattle.std.specs.Prelude.{if◌then◌else◌, ◌≢◌, ◌<◌, ◌+◌, ◌*◌, negsuc, ◌++◌, map, take, drop, replicate}
+use Rattle.std.specs.Prelude.{slice_index_or, ◌⊎◌}
 use Rattle.network.specs.declared.parts.Lag.{Lag}
 use Rattle.network.specs.Walk.{entry, AreLight, IsMatrixOf, Rows}
 use Rattle.network.specs.declared.limits.TheConstants.{MAX_ACTIVITIES, MAX_WALK_WEIGHT}

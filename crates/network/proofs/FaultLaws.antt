@@ -1,5 +1,7 @@
 -- Parts without a fault are those of a project, and a project has no fault.
-use Rattle.std.proofs.Common.{◌≡◌, refl, sym, ℕ, zero, suc, ◌+◌, ◌<◌, ◌≤◌, Bool, true, false, ◌&&◌, ℤ, pos, neg_ℤ, ◌≤ℤ◌, List, [], ◌∷◌, length, Option, None, Some, arith, get_or, ◌∙◌, inl, inr, map, Vec, Global, ap, ◌++◌, append_assoc, subst, int_le, nat_le, nat_lt, nat_eq, Result, Ok, Err, OnErr}
+use Rattle.std.proofs.Common.{◌≡◌, refl, sym, ℕ, zero, suc, ◌+◌, ◌<◌, ◌≤◌, Bool, true, false, ◌&&◌, ℤ, pos, neg_ℤ, ◌≤ℤ◌}
+use Rattle.std.proofs.Common.{List, [], ◌∷◌, length, Option, None, Some, arith, get_or, ◌∙◌, inl, inr, map, Vec, Global}
+use Rattle.std.proofs.Common.{ap, ◌++◌, append_assoc, subst, int_le, nat_le, nat_lt, nat_eq, Result, Ok, Err, OnErr}
 use Rattle.std.specs.List.{All, AllPairs, list_all, Contains, range_with_len}
 use Rattle.std.proofs.lemmas.Int.{ints}
 use Rattle.std.proofs.lemmas.Bool.{and_parts, ltb-true, leb-true, eqb-true, le-leb, lt-ltb, eq-eqb}
@@ -9,8 +11,12 @@ use Rattle.std.proofs.lemmas.List.Sums.{AllPass-from_list_all, list_all-from_All
 use Rattle.network.specs.declared.parts.ProjectFault.{ProjectFault}
 use Rattle.network.specs.declared.parts.ProjectFault.TheVariants.{Limit, Activity, Dummy, Shape}
 use Rattle.network.specs.declared.parts.Quantity.TheVariants as quantity
-use Rattle.network.specs.Problem.{Problem, activity_count, end_of, resource_count, duration, IsProject, IsLag, IsAmount, IsDummy, IsWithin, start_arc, end_arc, pair_arc, implied_arcs, rules, arcs_of, NameActivities, problem_of, Lag, MAX_ACTIVITIES, MAX_AMOUNT, MAX_LAG_WEIGHT, MAX_LAGS, MAX_RESOURCES, Pair}
-use Rattle.network.specs.Faults.{or_else, unless, is_amount, is_weight, is_zero, shape_fault, count_fault, dummy_fault, amount_fault, arc_fault, lag_fault, first_fault}
+use Rattle.network.specs.Problem.{Problem, activity_count, end_of, resource_count, duration, IsProject, IsLag, IsAmount}
+use Rattle.network.specs.Problem.{IsDummy, IsWithin, start_arc, end_arc, pair_arc, implied_arcs, rules, arcs_of}
+use Rattle.network.specs.Problem.{NameActivities, problem_of, Lag, MAX_ACTIVITIES, MAX_AMOUNT, MAX_LAG_WEIGHT, MAX_LAGS}
+use Rattle.network.specs.Problem.{MAX_RESOURCES, Pair}
+use Rattle.network.specs.Faults.{or_else, unless, is_amount, is_weight, is_zero, shape_fault, count_fault, dummy_fault}
+use Rattle.network.specs.Faults.{amount_fault, arc_fault, lag_fault, first_fault}
 use Rattle.std.proofs.lemmas.List.{get_or-map, length-map}
 use Rattle.std.proofs.lemmas.List.FromFn.{get_or-map-range_with_len, length-map-range_with_len, map-range_with_len_more}
 use Rattle.network.specs.Walk.{AreLight, AreInside}
@@ -29,7 +35,8 @@ int_le-true : (x y : ℤ) → int_le x y ≡ true → x ≤ℤ y
 int_le-true x y e = grind (arith, ints)
 
 amount : (z : ℤ) → is_amount z ≡ true → IsAmount z
-amount z e = let p = and_parts (int_le (pos 0) z) (int_le z MAX_AMOUNT) e in record { at_least = int_le-true (pos 0) z p.0; at_most = int_le-true z MAX_AMOUNT p.1 }
+amount z e = let p = and_parts (int_le (pos 0) z) (int_le z MAX_AMOUNT) e
+    in record { at_least = int_le-true (pos 0) z p.0; at_most = int_le-true z MAX_AMOUNT p.1 }
 
 zero_is : (z : ℤ) → is_zero z ≡ true → z ≡ pos 0
 zero_is z e =
@@ -67,7 +74,12 @@ pub record AreLags (n last : ℕ) (es : List Lag) : Type 0 where
   pub rise : AllPairs (λ e f. e.from ≤ f.from) es
 
 lags : (n place last : ℕ) (es : List Lag) → lag_fault n place last es ≡ None → AreLags n last es
-lags n place last [] h = record { fit = All-nil (IsLag n); after = All-nil (λ (e : Lag). last ≤ e.from); rise = λ i j d less in'. let no : j < 0 = in' in absurd (omega arith) }
+lags n place last [] h = record {
+  fit = All-nil (IsLag n);
+  after = All-nil (λ (e : Lag). last ≤ e.from);
+  rise =
+      λ i j d less in'. let no : j < 0 = in' in absurd (omega arith);
+}
 lags n place last (e ∷ es) h =
     let both = or_else-none (arc_fault n place last e) (lag_fault n (place + 1) e.from es) h in
     let here = arc n place last e both.0 in
@@ -75,16 +87,21 @@ lags n place last (e ∷ es) h =
     let low : last ≤ e.from = here.1 in
     record {
       fit = All-cons (IsLag n) e es here.0 others.fit;
-      after = All-cons (λ (f : Lag). last ≤ f.from) e es low (All-weaker (λ (f : Lag). e.from ≤ f.from) (λ (f : Lag). last ≤ f.from) (λ f k. omega arith) es others.after);
+      after = All-cons (λ (f : Lag). last ≤ f.from) e es low
+          (All-weaker (λ (f : Lag). e.from ≤ f.from) (λ (f : Lag). last ≤ f.from) (λ f k. omega arith) es others.after);
       rise = AllPairs-cons (λ (f g : Lag). f.from ≤ g.from) e es others.after others.rise;
     }
 
-pub no_shape_fault : (p : Problem) → 2 ≤ activity_count p → length p.demands ≡ activity_count p → list_all (λ row. nat_eq (length row) (resource_count p)) p.demands ≡ true → None ≡ shape_fault p
+pub no_shape_fault : (p : Problem) → 2 ≤ activity_count p → length p.demands ≡ activity_count p
+    → list_all (λ row. nat_eq (length row) (resource_count p)) p.demands ≡ true → None ≡ shape_fault p
 no_shape_fault p two long wide = rw (le-leb 2 (activity_count p) two, eq-eqb (length p.demands) (activity_count p) long, wide) refl
 
-from_parts : (p : Problem) → shape_fault p ≡ None → count_fault p ≡ None → dummy_fault p 0 ≡ None → dummy_fault p (end_of p) ≡ None → amount_fault p ≡ None → lag_fault (activity_count p) 0 0 p.lags ≡ None → IsProject p
+from_parts : (p : Problem) → shape_fault p ≡ None → count_fault p ≡ None → dummy_fault p 0 ≡ None
+    → dummy_fault p (end_of p) ≡ None → amount_fault p ≡ None → lag_fault (activity_count p) 0 0 p.lags ≡ None
+    → IsProject p
 from_parts p shape count first last amounts arcs =
-    let s1 = and_parts (nat_le 2 (activity_count p) && nat_eq (length p.demands) (activity_count p)) (list_all (λ row. nat_eq (length row) (resource_count p)) p.demands) (unless-none _ _ shape) in
+    let s1 = and_parts (nat_le 2 (activity_count p) && nat_eq (length p.demands) (activity_count p))
+    (list_all (λ row. nat_eq (length row) (resource_count p)) p.demands) (unless-none _ _ shape) in
     let s2 = and_parts (nat_le 2 (activity_count p)) (nat_eq (length p.demands) (activity_count p)) s1.0 in
     let c1 = or_else-none _ _ count in
     let c2 = or_else-none _ _ c1.1 in
@@ -97,11 +114,13 @@ from_parts p shape count first last amounts arcs =
       resource_limit = leb-true (resource_count p) MAX_RESOURCES (unless-none _ _ c2.0);
       lag_limit = leb-true (length p.lags) MAX_LAGS (unless-none _ _ c2.1);
       demand_rows = eqb-true (length p.demands) (activity_count p) s2.1;
-      demand_columns = all_by (λ row. nat_eq (length row) (resource_count p)) (λ row. length row ≡ resource_count p) p.demands (λ row t. eqb-true (length row) (resource_count p) t) s1.1;
+      demand_columns = all_by (λ row. nat_eq (length row) (resource_count p)) (λ row. length row ≡ resource_count p)
+          p.demands (λ row t. eqb-true (length row) (resource_count p) t) s1.1;
       start_is_dummy = dummy p 0 first;
       end_is_dummy = dummy p (end_of p) last;
       durations_fit = all_by is_amount IsAmount p.durations amount (unless-none _ _ a1.0);
-      demands_fit = all_by (λ row. list_all is_amount row) (λ row. All IsAmount row) p.demands (λ row t. all_by is_amount IsAmount row amount t) (unless-none _ _ a2.0);
+      demands_fit = all_by (λ row. list_all is_amount row) (λ row. All IsAmount row) p.demands
+          (λ row t. all_by is_amount IsAmount row amount t) (unless-none _ _ a2.0);
       capacities_fit = all_by is_amount IsAmount p.capacities amount (unless-none _ _ a2.1);
       lags_fit = given.fit;
       lags_rise = given.rise;
@@ -154,7 +173,9 @@ no_arc_fault n place last e l after =
     (or_else-both (unless (nat_lt e.to n) (Activity place e.to)) _ (unless-true (nat_lt e.to n) _ (lt-ltb e.to n l.to_activity))
     (or_else-both (unless (is_weight e.weight) (Limit quantity.Lag)) _
     (unless-true (is_weight e.weight) _
-    (and_true (int_le (neg_ℤ MAX_LAG_WEIGHT) e.weight) (int_le e.weight MAX_LAG_WEIGHT) (true_int_le (neg_ℤ MAX_LAG_WEIGHT) e.weight l.light.at_least) (true_int_le e.weight MAX_LAG_WEIGHT l.light.at_most)))
+    (and_true (int_le (neg_ℤ MAX_LAG_WEIGHT) e.weight) (int_le e.weight MAX_LAG_WEIGHT)
+    (true_int_le (neg_ℤ MAX_LAG_WEIGHT) e.weight l.light.at_least)
+    (true_int_le e.weight MAX_LAG_WEIGHT l.light.at_most)))
     (unless-true (nat_le last e.from) Shape (le-leb last e.from after))))
 
 no_lag_fault : (n place last : ℕ) (es : List Lag) → AreLags n last es → lag_fault n place last es ≡ None
@@ -170,21 +191,29 @@ no_lag_fault n place last (e ∷ es) h =
 
 no_amount_fault : (p : Problem) → IsProject p → amount_fault p ≡ None
 no_amount_fault p is =
-    or_else-both (unless (list_all is_amount p.durations) (Limit quantity.Duration)) _ (unless-true (list_all is_amount p.durations) _ (passes_all is_amount IsAmount p.durations amount_passes is.durations_fit))
+    or_else-both (unless (list_all is_amount p.durations) (Limit quantity.Duration)) _
+    (unless-true (list_all is_amount p.durations) _
+    (passes_all is_amount IsAmount p.durations amount_passes is.durations_fit))
     (or_else-both (unless (list_all (λ row. list_all is_amount row) p.demands) (Limit quantity.Demand)) _
     (unless-true (list_all (λ row. list_all is_amount row) p.demands) _
-    (passes_all (λ row. list_all is_amount row) (λ row. All IsAmount row) p.demands (λ row h. passes_all is_amount IsAmount row amount_passes h) is.demands_fit))
+    (passes_all (λ row. list_all is_amount row) (λ row. All IsAmount row) p.demands
+    (λ row h. passes_all is_amount IsAmount row amount_passes h) is.demands_fit))
     (unless-true (list_all is_amount p.capacities) _ (passes_all is_amount IsAmount p.capacities amount_passes is.capacities_fit)))
 
 no_count_fault : (p : Problem) → IsProject p → count_fault p ≡ None
 no_count_fault p is =
-    or_else-both (unless (nat_le (activity_count p) MAX_ACTIVITIES) (Limit quantity.Activities)) _ (unless-true (nat_le (activity_count p) MAX_ACTIVITIES) _ (le-leb (activity_count p) MAX_ACTIVITIES is.activity_limit))
-    (or_else-both (unless (nat_le (resource_count p) MAX_RESOURCES) (Limit quantity.Resources)) _ (unless-true (nat_le (resource_count p) MAX_RESOURCES) _ (le-leb (resource_count p) MAX_RESOURCES is.resource_limit))
+    or_else-both (unless (nat_le (activity_count p) MAX_ACTIVITIES) (Limit quantity.Activities)) _
+    (unless-true (nat_le (activity_count p) MAX_ACTIVITIES) _
+    (le-leb (activity_count p) MAX_ACTIVITIES is.activity_limit))
+    (or_else-both (unless (nat_le (resource_count p) MAX_RESOURCES) (Limit quantity.Resources)) _
+    (unless-true (nat_le (resource_count p) MAX_RESOURCES) _
+    (le-leb (resource_count p) MAX_RESOURCES is.resource_limit))
     (unless-true (nat_le (length p.lags) MAX_LAGS) _ (le-leb (length p.lags) MAX_LAGS is.lag_limit)))
 
 pub no_fault-from_IsProject : (p : Problem) → IsProject p → first_fault p ≡ None
 no_fault-from_IsProject p is =
-    let wide = passes_all (λ row. nat_eq (length row) (resource_count p)) (λ row. length row ≡ resource_count p) p.demands (λ row h. eq-eqb (length row) (resource_count p) h) is.demand_columns in
+    let wide = passes_all (λ row. nat_eq (length row) (resource_count p)) (λ row. length row ≡ resource_count p)
+    p.demands (λ row h. eq-eqb (length row) (resource_count p) h) is.demand_columns in
     or_else-both (shape_fault p) _ (sym (no_shape_fault p is.two_dummies is.demand_rows wide))
     (or_else-both (count_fault p) _ (no_count_fault p is)
     (or_else-both (dummy_fault p 0) _ (no_dummy_fault p 0 is.start_is_dummy)
@@ -215,7 +244,8 @@ mapped f a n e c =
     let lt : c.0 < n = rw (← len) c.1 in
     (c.0, lt, sym c.2 ∙ get_or-map-range_with_len f a n c.0 (a + c.0) e lt (omega arith))
 
-pub mapped_list : (f : Pair → Lag) (e : Lag) (qs : List Pair) (k : ℕ) → k < length (map f qs) → get_or (map f qs) k e ≡ e → (q : Pair) × Contains qs q × (e ≡ f q)
+pub mapped_list : (f : Pair → Lag) (e : Lag) (qs : List Pair) (k : ℕ) → k < length (map f qs)
+    → get_or (map f qs) k e ≡ e → (q : Pair) × Contains qs q × (e ≡ f q)
 mapped_list f e qs k lt is =
     let none : Pair = record { before = 0; after = 0 } in
     let len : length (map f qs) ≡ length qs = length-map qs f in
@@ -241,7 +271,12 @@ arc-of p pairs is named e c =
           | inl s ↦
               let m = mapped start_arc 1 (end_of p) e s in
               let lt : m.0 < end_of p = m.1 in
-              rw m.2 (record { from_activity = omega arith; to_activity = omega arith; light = record { at_least = omega (arith, ints); at_most = omega (arith, ints) } })
+              rw m.2 (record {
+                from_activity = omega arith;
+                to_activity = omega arith;
+                light =
+                    record { at_least = omega (arith, ints); at_most = omega (arith, ints) };
+              })
           | inr s ↦
               let m = mapped (end_arc p) 0 (end_of p) e s in
               let lt : m.0 < end_of p = m.1 in
@@ -262,7 +297,8 @@ AreLight-arcs_of p pairs is named = λ e c. (arc-of p pairs is named e c).light
 
 -- ---- One more element at the end of a list that a loop builds.
 
-pub appended_more : {X : Type 0} (f : ℕ → X) (a n j : ℕ) (x : X) (xs ys zs : List X) → ys ≡ xs ++ map f (range_with_len a n) → zs ≡ ys ++ x ∷ [] → a + n ≡ j → x ≡ f j →
+pub appended_more : {X : Type 0} (f : ℕ → X) (a n j : ℕ) (x : X) (xs ys zs : List X)
+    → ys ≡ xs ++ map f (range_with_len a n) → zs ≡ ys ++ x ∷ [] → a + n ≡ j → x ≡ f j →
     zs ≡ xs ++ map f (range_with_len a (n + 1))
 appended_more f a n j x xs ys zs e h k is =
     rw (map-range_with_len_more f a n j k, h, e, is) (append_assoc xs (map f (range_with_len a n)) (f j ∷ []))
@@ -272,7 +308,8 @@ pub rows_all : {Y : Type 0} (p : List ℤ → Bool) (h : Y → List ℤ) (ys : L
 rows_all p h ys = list_all-map p h ys
 
 -- the row of an activity, as the struct keeps it and as a caller sees it
-pub row_at : (rows : List (Vec ℤ Global)) (i : ℕ) (row : Vec ℤ Global) → i < length rows → row ≡ get_or rows i row → get_or (map (λ r. r.items) rows) i [] ≡ row.items
+pub row_at : (rows : List (Vec ℤ Global)) (i : ℕ) (row : Vec ℤ Global) → i < length rows → row ≡ get_or rows i row
+    → get_or (map (λ r. r.items) rows) i [] ≡ row.items
 row_at rows i row h e = get_or-map (λ r. r.items) rows i row [] h ∙ ap (λ r. r.items) (sym e)
 
 -- ---- How long the rows of demands are, as the struct keeps them and as a caller sees them.
@@ -284,7 +321,8 @@ row_long p is i lt =
     All-get_or (λ (row : List ℤ). length row ≡ resource_count p) p.demands i [] inside is.demand_columns
 
 -- the row that the struct keeps of an activity has a demand for each resource
-pub row_count : (parts : Parts) (q : Problem) (i : ℕ) (row : Vec ℤ Global) → problem_of parts ≡ q → IsProject (problem_of parts) → i < activity_count q → row ≡ get_or parts.demands.items i row →
+pub row_count : (parts : Parts) (q : Problem) (i : ℕ) (row : Vec ℤ Global) → problem_of parts ≡ q
+    → IsProject (problem_of parts) → i < activity_count q → row ≡ get_or parts.demands.items i row →
     length row.items ≡ resource_count q
 row_count parts q i row view is lt at =
     let P : Problem → Type 0 = λ v. i < activity_count v → length row.items ≡ resource_count v in

@@ -1,11 +1,13 @@
 -- Schedules and walks: each walk is a rule, so no schedule stands where a closed walk is positive,
 -- and the greatest weights of walks from the start are the least schedule.
-use Rattle.std.proofs.Common.{◌≡◌, refl, sym, ◌∙◌, ap, ℕ, ◌-◌, ◌<◌, ◌≤◌, zero, suc, inl, inr, arith, ℤ, pos, ◌≤ℤ◌, ◌<ℤ◌, ◌+ℤ◌, List, [], ◌∷◌, ◌++◌, length, map, append_assoc, Option, None, Some, ◌+◌}
+use Rattle.std.proofs.Common.{◌≡◌, refl, sym, ◌∙◌, ap, ℕ, ◌-◌, ◌<◌, ◌≤◌, zero, suc, inl, inr, arith, ℤ, pos, ◌≤ℤ◌, ◌<ℤ◌}
+use Rattle.std.proofs.Common.{◌+ℤ◌, List, [], ◌∷◌, ◌++◌, length, map, append_assoc, Option, None, Some, ◌+◌}
 use Rattle.std.proofs.lemmas.Int.{ints}
 use Rattle.std.specs.List.{All, Contains, range_with_len}
 use Rattle.std.specs.Option.{unwrap_or}
 use Rattle.std.proofs.lemmas.List.{length-map, get_or-map, map-append}
-use Rattle.std.proofs.lemmas.List.Elements.{Contains-append_cases, Contains-append_left, Contains-append_right, All-contains, All-weaker, All-contains_itself, All-filter}
+use Rattle.std.proofs.lemmas.List.Elements.{Contains-append_cases, Contains-append_left, Contains-append_right}
+use Rattle.std.proofs.lemmas.List.Elements.{All-contains, All-weaker, All-contains_itself, All-filter}
 use Rattle.std.proofs.lemmas.List.FromFn.{get_or-map-range_with_len, length-map-range_with_len, length-range_with_len, get_or-range_with_len}
 use Rattle.network.specs.Problem.{Problem, activity_count, end_of, start_arc, end_arc, pair_arc, implied_arcs, rules, arcs_of, activities, Lag, Pair}
 use Rattle.network.specs.Schedule.{start, Meets, IsSchedule, Keeps, KeepsAll, IsLeastSchedule, makespan, IsTrueBound, is_running, running}
@@ -16,7 +18,8 @@ use Rattle.std.specs.List.Sorted.{IsStrictlyIncreasing}
 use Rattle.std.proofs.lemmas.List.Kept.{IsStrictlyIncreasing-filter}
 
 -- a list of starts that meets the arcs is as long as each walk says
-pub walk_holds : (arcs : List Lag) (s : List ℤ) → ((e : Lag) → Contains arcs e → Meets s e) → (a b : ℕ) (es : List Lag) → IsWalk arcs a es b → (start s a +ℤ weight es) ≤ℤ start s b
+pub walk_holds : (arcs : List Lag) (s : List ℤ) → ((e : Lag) → Contains arcs e → Meets s e) → (a b : ℕ) (es : List Lag)
+    → IsWalk arcs a es b → (start s a +ℤ weight es) ≤ℤ start s b
 walk_holds arcs s met a b [] w = rw w (omega (arith, ints))
 walk_holds arcs s met a b (e ∷ es) w =
     let one : (start s e.from +ℤ e.weight) ≤ℤ start s e.to = met e w.0 in
@@ -39,7 +42,8 @@ pub no_schedule_on_cycle : (p : Problem) (pairs : List Pair) (s : List ℤ) → 
 no_schedule_on_cycle p pairs s cycle is keeps =
     let a = cycle.0 in
     let es = cycle.1 in
-    let h : (start s cycle.0 +ℤ weight cycle.1) ≤ℤ start s cycle.0 = walk_holds (arcs_of p pairs) s (arcs_met p pairs s is keeps) cycle.0 cycle.0 cycle.1 cycle.2.closed in
+    let h : (start s cycle.0 +ℤ weight cycle.1) ≤ℤ start s cycle.0 =
+    walk_holds (arcs_of p pairs) s (arcs_met p pairs s is keeps) cycle.0 cycle.0 cycle.1 cycle.2.closed in
     let positive : pos 0 <ℤ weight cycle.1 = cycle.2.positive in
     omega (arith, ints)
 
@@ -53,7 +57,8 @@ pub record IsAttained (arcs : List Lag) (a b : ℕ) (g : ℤ) : Type 0 where
   pub weighs : weight walk ≡ g
   pub greatest : (es : List Lag) → IsWalk arcs a es b → weight es ≤ℤ g
 
-attained_by : (arcs : List Lag) (a b : ℕ) (o : Option ℤ) → IsGreatestWeight arcs a b o → (es : List Lag) → IsWalk arcs a es b → IsAttained arcs a b (unwrap_or o (pos 0))
+attained_by : (arcs : List Lag) (a b : ℕ) (o : Option ℤ) → IsGreatestWeight arcs a b o → (es : List Lag)
+    → IsWalk arcs a es b → IsAttained arcs a b (unwrap_or o (pos 0))
 attained_by arcs a b None none es w = absurd (none es w)
 attained_by arcs a b (Some g) h es w = record { walk = h.0.0; goes = h.0.1; weighs = h.0.2; greatest = h.1 }
 
@@ -67,7 +72,9 @@ start_rule p i lt =
     let low : i < end_of p = omega arith in
     let here : Contains (map start_arc (range_with_len 1 (end_of p))) (start_arc (suc i)) =
     (i, rw len low, get_or-map-range_with_len start_arc 1 (end_of p) i (suc i) (start_arc (suc i)) low (omega arith)) in
-    Contains-append_right p.lags (implied_arcs p) (start_arc (suc i)) (Contains-append_left (map start_arc (range_with_len 1 (end_of p))) (map (end_arc p) (range_with_len 0 (end_of p))) (start_arc (suc i)) here)
+    Contains-append_right p.lags (implied_arcs p) (start_arc (suc i))
+    (Contains-append_left (map start_arc (range_with_len 1 (end_of p)))
+    (map (end_arc p) (range_with_len 0 (end_of p))) (start_arc (suc i)) here)
 
 -- the start reaches each activity
 from_start : (p : Problem) (pairs : List Pair) (i : ℕ) → i < activity_count p → (es : List Lag) × IsWalk (arcs_of p pairs) 0 es i
@@ -83,7 +90,9 @@ entry_attained p pairs rows m i lt =
     let at = attained_by (arcs_of p pairs) 0 i (entry rows 0 i) (m.greatest 0 i zero_in lt) w.0 w.1 in
     rw (start_weights rows 0 i (rw long lt)) at
 
-weights_meet : (p : Problem) (pairs : List Pair) (rows : Rows) → IsMatrixOf (activity_count p) (arcs_of p pairs) rows → (e : Lag) → Contains (arcs_of p pairs) e → e.from < activity_count p → e.to < activity_count p → Meets (weights_from 0 rows) e
+weights_meet : (p : Problem) (pairs : List Pair) (rows : Rows) → IsMatrixOf (activity_count p) (arcs_of p pairs) rows
+    → (e : Lag) → Contains (arcs_of p pairs) e → e.from < activity_count p → e.to < activity_count p
+    → Meets (weights_from 0 rows) e
 weights_meet p pairs rows m e here lf lt =
     let from = entry_attained p pairs rows m e.from lf in
     let to = entry_attained p pairs rows m e.to lt in
@@ -132,7 +141,8 @@ IsLeastSchedule-weights p pairs rows m = record {
         omega (arith, ints)
 
 -- the greatest weight from the start to the end is a true bound of the node
-pub IsTrueBound-critical : (p : Problem) (pairs : List Pair) (rows : Rows) → IsProjectMatrix p pairs rows → (c : ℤ) → entry rows 0 (end_of p) ≡ Some c → IsTrueBound p pairs c
+pub IsTrueBound-critical : (p : Problem) (pairs : List Pair) (rows : Rows) → IsProjectMatrix p pairs rows → (c : ℤ)
+    → entry rows 0 (end_of p) ≡ Some c → IsTrueBound p pairs c
 IsTrueBound-critical p pairs rows m c e = λ s stands.
     let two : 2 ≤ activity_count p = m.limits.two_dummies in
     let at : IsGreatestWeight (arcs_of p pairs) 0 (end_of p) (Some c) = rw e at (m.matrix.greatest 0 (end_of p) (omega arith) (omega arith)) in
@@ -145,7 +155,8 @@ IsTrueBound-critical p pairs rows m c e = λ s stands.
 
 -- one pair more is one arc more
 pub arcs_of-push : (p : Problem) (pairs : List Pair) (q : Pair) → arcs_of p (pairs ++ q ∷ []) ≡ arcs_of p pairs ++ pair_arc p q ∷ []
-arcs_of-push p pairs q = ap (λ (t : List Lag). rules p ++ t) (map-append (pair_arc p) pairs (q ∷ [])) ∙ sym (append_assoc (rules p) (map (pair_arc p) pairs) (pair_arc p q ∷ []))
+arcs_of-push p pairs q = ap (λ (t : List Lag). rules p ++ t) (map-append (pair_arc p) pairs (q ∷ []))
+    ∙ sym (append_assoc (rules p) (map (pair_arc p) pairs) (pair_arc p q ∷ []))
 
 -- ---- The activities that run at a unit of time are activities, and rise.
 

@@ -1,5 +1,7 @@
 -- A schedule without the periods that no stretch covers is feasible too, and ends by the horizon.
-use Rattle.std.proofs.Common.{◌≡◌, refl, sym, ap, ◌∙◌, ℕ, zero, suc, ◌+◌, ◌-◌, ◌<◌, ◌≤◌, inl, inr, ⊎_elim, Bool, true, false, ◌==◌, ◌&&◌, int_le, int_lt, cond, ℤ, pos, negsuc, ◌+ℤ◌, ◌≤ℤ◌, ◌<ℤ◌, unsigned_abs, List, [], ◌∷◌, map, length, get_or, arith}
+use Rattle.std.proofs.Common.{◌≡◌, refl, sym, ap, ◌∙◌, ℕ, zero, suc, ◌+◌, ◌-◌, ◌<◌, ◌≤◌, inl, inr, ⊎_elim, Bool, true}
+use Rattle.std.proofs.Common.{false, ◌==◌, ◌&&◌, int_le, int_lt, cond, ℤ, pos, negsuc, ◌+ℤ◌, ◌≤ℤ◌, ◌<ℤ◌, unsigned_abs}
+use Rattle.std.proofs.Common.{List, [], ◌∷◌, map, length, get_or, arith}
 use Rattle.std.specs.Int.{int_max}
 use Rattle.std.specs.List.{All, Contains, filter, fold, range_with_len, sum_by}
 use Rattle.std.proofs.lemmas.Bool.{eq-eqb}
@@ -51,7 +53,9 @@ given_short : (p : Problem) (e : Lag) → Contains p.lags e → e.weight ≤ℤ 
 given_short p e there =
     let from_here : Lag → Bool = λ f. f.from == e.from in
     let kept : Contains (filter from_here p.lags) e = Contains-filter from_here p.lags e (eq-eqb e.from e.from refl) there in
-    All-contains (λ x. x ≤ℤ longest p e.from) (lags_from p e.from) e.weight (fold-int_max_bounds (duration p e.from) (lags_from p e.from) (longest p e.from) refl).1 (Contains-map (λ f. f.weight) (filter from_here p.lags) e kept)
+    All-contains (λ x. x ≤ℤ longest p e.from) (lags_from p e.from) e.weight
+    (fold-int_max_bounds (duration p e.from) (lags_from p e.from) (longest p e.from) refl).1
+    (Contains-map (λ f. f.weight) (filter from_here p.lags) e kept)
 
 -- an arc of a list that is made of numbers
 made_of : (f : ℕ → Lag) (a n : ℕ) (e : Lag) → Contains (map f (range_with_len a n)) e → (i : ℕ) × (e ≡ f i)
@@ -109,7 +113,8 @@ begin_is p s (suc i) is lt =
 -- ---- it meets the rules
 
 -- the weight is at most the stretch, so squeezed time has all of it
-later : (p : Problem) (s : List ℤ) (i j : ℕ) (w : ℤ) → i < activity_count p → w ≤ℤ pos (stretch p i) → (pos (begin s i) +ℤ w) ≤ℤ pos (begin s j) → (pos (time p s (begin s i)) +ℤ w) ≤ℤ pos (time p s (begin s j))
+later : (p : Problem) (s : List ℤ) (i j : ℕ) (w : ℤ) → i < activity_count p → w ≤ℤ pos (stretch p i)
+    → (pos (begin s i) +ℤ w) ≤ℤ pos (begin s j) → (pos (time p s (begin s i)) +ℤ w) ≤ℤ pos (time p s (begin s j))
 later p s i j (pos k) lt short met =
     let le : begin s i + k ≤ begin s j = omega (arith, ints) in
     let within : k ≤ stretch p i = omega (arith, ints) in
@@ -152,7 +157,8 @@ sum_by-filter-le f P Q (x ∷ xs) both =
     let rest = sum_by-filter-le f P Q xs (All-tail (λ y. P y ≡ true → Q y ≡ true) x xs both) in
     by_test (P x) (Q x) (All-head (λ y. P y ≡ true → Q y ≡ true) x xs both) rest
   where
-    by_test : (b c : Bool) → (b ≡ true → c ≡ true) → sum_by f (filter P xs) ≤ sum_by f (filter Q xs) → sum_by f (cond b (x ∷ filter P xs) (filter P xs)) ≤ sum_by f (cond c (x ∷ filter Q xs) (filter Q xs))
+    by_test : (b c : Bool) → (b ≡ true → c ≡ true) → sum_by f (filter P xs) ≤ sum_by f (filter Q xs)
+        → sum_by f (cond b (x ∷ filter P xs) (filter P xs)) ≤ sum_by f (cond c (x ∷ filter Q xs) (filter Q xs))
     by_test false false h rest = rest
     by_test false true h rest = omega (arith, sum_by-cons f x (filter Q xs))
     by_test true true h rest = omega (arith, sum_by-cons f x (filter P xs), sum_by-cons f x (filter Q xs))
@@ -182,7 +188,9 @@ lasts p i is lt =
     record { periods = unsigned_abs (duration p i); is = omega (arith, ints); within = omega (arith, ints) }
 
 -- when it runs in squeezed time
-running_when : (p : Problem) (s : List ℤ) (t : ℤ) (i : ℕ) (l : Lasts p i) → i < activity_count p → is_running p (sooner p s) t i ≡ true → (pos (time p s (begin s i)) ≤ℤ t) × (t <ℤ pos (time p s (begin s i) + l.periods))
+running_when : (p : Problem) (s : List ℤ) (t : ℤ) (i : ℕ) (l : Lasts p i) → i < activity_count p
+    → is_running p (sooner p s) t i ≡ true → (pos (time p s (begin s i)) ≤ℤ t)
+    × (t <ℤ pos (time p s (begin s i) + l.periods))
 running_when p s t i l lt runs =
     let from : start (sooner p s) i ≡ pos (time p s (begin s i)) = start-sooner p s i lt in
     let parts = when_runs (start (sooner p s) i) t (start (sooner p s) i +ℤ duration p i) runs in
@@ -210,7 +218,8 @@ old_time p s is schedule (pos u) =
         λ i lt runs.
             let l = lasts p i is lt in
             let at = running_when p s (pos u) i l lt runs in
-            let then = runs_then (begin s) (stretch p) (activity_count p) u found.0 i l.periods found.1 lt l.within (omega (arith, ints, at.0)) (omega (arith, ints, at.1)) in
+            let then = runs_then (begin s) (stretch p) (activity_count p) u found.0 i l.periods found.1 lt l.within
+            (omega (arith, ints, at.0)) (omega (arith, ints, at.1)) in
             let from : pos (begin s i) ≡ start s i = begin_is p s i schedule lt in
             let length_is : pos l.periods ≡ duration p i = l.is in
             let begun : begin s i ≤ found.0 = then.0 in
@@ -223,7 +232,8 @@ within-sooner : (p : Problem) (s : List ℤ) → IsProject p → IsFeasible p s 
 within-sooner p s is feasible = λ t k in_range.
     let old = old_time p s is feasible.schedule t in
     let fits : use_at p s k old.0 ≤ capacity p k = feasible.within old.0 k in_range in
-    let each : All (λ i. is_running p (sooner p s) t i ≡ true → is_running p s old.0 i ≡ true) (activities p) = λ j d l. old.1 (get_or (activities p) j d) (range_below (activity_count p) j d l) in
+    let each : All (λ i. is_running p (sooner p s) t i ≡ true → is_running p s old.0 i ≡ true) (activities p) = λ j d l.
+    old.1 (get_or (activities p) j d) (range_below (activity_count p) j d l) in
     omega (arith, fits, sum_by-filter-le (demand p k) (is_running p (sooner p s) t) (is_running p s old.0) (activities p) each)
 
 -- ---- the theorem

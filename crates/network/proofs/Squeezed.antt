@@ -1,5 +1,6 @@
 -- Time without the periods that no stretch covers. The stretch of i begins at a i and lasts for m i periods.
-use Rattle.std.proofs.Common.{◌≡◌, refl, sym, ap, ◌∙◌, ℕ, zero, suc, ◌+◌, ◌-◌, ◌<◌, ◌≤◌, ◌⊎◌, inl, inr, ⊎_elim, min, Bool, true, false, ◌&&◌, cond, nat_le, nat_lt, arith, map-id, add-zero, add-one, add-suc}
+use Rattle.std.proofs.Common.{◌≡◌, refl, sym, ap, ◌∙◌, ℕ, zero, suc, ◌+◌, ◌-◌, ◌<◌, ◌≤◌, ◌⊎◌, inl, inr, ⊎_elim, min}
+use Rattle.std.proofs.Common.{Bool, true, false, ◌&&◌, cond, nat_le, nat_lt, arith, map-id, add-zero, add-one, add-suc}
 use Rattle.std.specs.List.{range_with_len, sum_by}
 use Rattle.std.proofs.lemmas.Bool.{cases_lt, le-leb, lt-ltb, leb-true, ltb-true, and_parts}
 use Rattle.std.proofs.lemmas.List.FromFn.{sum_by-map-range_with_len_more}
@@ -70,7 +71,9 @@ one_more a m k zero = omega arith
 one_more a m k (suc x) =
     step_by (one_more a m k x) (is_within (a k) (m k) x) refl
   where
-    step_by : squeezed a m (suc k) x ≤ squeezed a m k x + min (m k) (x - a k) → (b : Bool) → is_within (a k) (m k) x ≡ b → squeezed a m (suc k) x + cond b 1 (covered a m k x) ≤ squeezed a m k x + covered a m k x + min (m k) (suc x - a k)
+    step_by : squeezed a m (suc k) x ≤ squeezed a m k x + min (m k) (x - a k) → (b : Bool) → is_within (a k) (m k) x ≡ b
+        → squeezed a m (suc k) x + cond b 1 (covered a m k x) ≤ squeezed a m k x + covered a m k x + min (m k)
+        (suc x - a k)
     step_by before true e =
         let parts = and_parts (nat_le (a k) x) (nat_lt x (a k + m k)) e in
         let low : a k ≤ x = leb-true (a k) x parts.0 in
@@ -108,7 +111,8 @@ period_of a m n t (suc x) =
     (cases_lt t (squeezed a m n (suc x)))
 
 -- what runs for k periods of its stretch, and at t in squeezed time, runs at that period
-pub runs_then : (a m : ℕ → ℕ) (n t period i k : ℕ) → IsPeriodOf a m n t period → i < n → k ≤ m i → squeezed a m n (a i) ≤ t → t < squeezed a m n (a i) + k → (a i ≤ period) × (period < a i + k)
+pub runs_then : (a m : ℕ → ℕ) (n t period i k : ℕ) → IsPeriodOf a m n t period → i < n → k ≤ m i
+    → squeezed a m n (a i) ≤ t → t < squeezed a m n (a i) + k → (a i ≤ period) × (period < a i + k)
 runs_then a m n t period i k at lt le from to = (
   ⊎_elim
       (λ (late : period < a i). absurd (omega (arith, at.passed, rising a m n (suc period) (a i) (omega arith))))

@@ -1,6 +1,7 @@
 -- Laws of walks: joined end to end, cut at a vertex, and how long one can be that visits no inner
 -- vertex twice.
-use Rattle.std.proofs.Common.{◌≡◌, refl, sym, ap, ℕ, ◌+◌, ◌*◌, ◌<◌, ◌≤◌, ◌⊎◌, inl, inr, arith, ℤ, pos, unsigned_abs, ◌+ℤ◌, List, [], ◌∷◌, ◌++◌, length, true, false, eqb}
+use Rattle.std.proofs.Common.{◌≡◌, refl, sym, ap, ℕ, ◌+◌, ◌*◌, ◌<◌, ◌≤◌, ◌⊎◌, inl, inr, arith, ℤ, pos, unsigned_abs}
+use Rattle.std.proofs.Common.{◌+ℤ◌, List, [], ◌∷◌, ◌++◌, length, true, false, eqb}
 use Rattle.std.proofs.lemmas.Int.{ints}
 use Rattle.std.specs.List.{Contains, IsDistinct, list_any, AllByRecursion}
 use Rattle.std.proofs.lemmas.Bool.{ne_eqb, eqb-true, or_cases}
@@ -63,7 +64,8 @@ IsSimple-append (x ∷ xs) ys h k apart = (
 )
 
 -- the inner vertices of one walk after another, neither of them empty
-pub inner-append : (arcs : List Lag) (a b : ℕ) (e f : Lag) (es fs : List Lag) → IsWalk arcs a (e ∷ es) b → inner ((e ∷ es) ++ (f ∷ fs)) ≡ inner (e ∷ es) ++ b ∷ inner (f ∷ fs)
+pub inner-append : (arcs : List Lag) (a b : ℕ) (e f : Lag) (es fs : List Lag) → IsWalk arcs a (e ∷ es) b
+    → inner ((e ∷ es) ++ (f ∷ fs)) ≡ inner (e ∷ es) ++ b ∷ inner (f ∷ fs)
 inner-append arcs a b e f [] fs w = ap (λ v. v ∷ inner (f ∷ fs)) w.2
 inner-append arcs a b e f (g ∷ es) fs w = ap (λ t. e.to ∷ t) (inner-append arcs e.to b g f es fs w.2)
 

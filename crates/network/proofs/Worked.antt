@@ -49,14 +49,17 @@ b_rules : rules b ≡ arc 0 1 (pos 0) ∷ arc 0 2 (pos 0) ∷ arc 0 3 (pos 0) �
 b_rules = refl
 
 -- the given arcs come first, and the arc of a pair last
-g_arcs : arcs_of g (pair 2 3 ∷ []) ≡ (arc 1 3 (pos 1) ∷ arc 3 1 (negsuc 2) ∷ arc 0 1 (pos 0) ∷ arc 0 2 (pos 0) ∷ arc 0 3 (pos 0) ∷ arc 0 4 (pos 0) ∷ []) ++ (arc 0 4 (pos 0) ∷ arc 1 4 (pos 2) ∷ arc 2 4 (pos 3) ∷ arc 3 4 (pos 2) ∷ arc 2 3 (pos 3) ∷ [])
+g_arcs : arcs_of g (pair 2 3 ∷ []) ≡ (arc 1 3 (pos 1) ∷ arc 3 1 (negsuc 2) ∷ arc 0 1 (pos 0) ∷ arc 0 2 (pos 0) ∷ arc 0 3
+    (pos 0) ∷ arc 0 4 (pos 0) ∷ []) ++ (arc 0 4 (pos 0) ∷ arc 1 4 (pos 2) ∷ arc 2 4 (pos 3) ∷ arc 3 4 (pos 2) ∷ arc 2 3
+    (pos 3) ∷ [])
 g_arcs = refl
 
 b_amounts : (end_of b ≡ 3) × (duration b 2 ≡ pos 4) × (demand b 0 1 ≡ 1) × (capacity b 0 ≡ 1)
 b_amounts = (refl, refl, refl, refl)
 
 -- an activity runs from its start on, and not at its end; one of no duration never does
-b_runs : (is_running b (numbers 0 0 3 7) (pos 2) 1 ≡ true) × (is_running b (numbers 0 0 3 7) (pos 3) 1 ≡ false) × (is_running b (numbers 0 0 3 7) (pos 0) 0 ≡ false)
+b_runs : (is_running b (numbers 0 0 3 7) (pos 2) 1 ≡ true) × (is_running b (numbers 0 0 3 7) (pos 3) 1 ≡ false)
+    × (is_running b (numbers 0 0 3 7) (pos 0) 0 ≡ false)
 b_runs = (refl, refl, refl)
 
 b_use : (use_at b (numbers 0 0 3 7) 0 (pos 3) ≡ 1) × (use_at b (numbers 0 0 2 6) 0 (pos 2) ≡ 2) × (use_at b (numbers 0 0 3 7) 0 (pos 7) ≡ 0)
@@ -119,18 +122,24 @@ b_cycle = record {
 abbrev with_lags : List Lag → Problem
 with_lags es = record b { lags = es }
 
-b_shape : (first_fault (record b { demands = one 0 ∷ one 1 ∷ one 1 ∷ [] }) ≡ Some Shape) × (first_fault (with_lags (arc 2 1 (pos 0) ∷ arc 1 2 (pos 0) ∷ [])) ≡ Some Shape)
+b_shape : (first_fault (record b { demands = one 0 ∷ one 1 ∷ one 1 ∷ [] }) ≡ Some Shape)
+    × (first_fault (with_lags (arc 2 1 (pos 0) ∷ arc 1 2 (pos 0) ∷ [])) ≡ Some Shape)
 b_shape = (refl, refl)
 
 b_dummy : first_fault (record b { durations = numbers 0 3 4 2 }) ≡ Some (Dummy 3)
 b_dummy = refl
 
-b_limits : (first_fault (record b { durations = numbers 0 3 1000001 0; lags = arc 1 9 (pos 0) ∷ [] }) ≡ Some (Limit quantity.Duration)) × (first_fault (record b { capacities = negsuc 0 ∷ [] }) ≡ Some (Limit quantity.Capacity)) × (first_fault (with_lags (arc 2 1 (pos 0) ∷ arc 1 2 (negsuc 1000000) ∷ [])) ≡ Some (Limit quantity.Lag))
+b_limits : (first_fault (record b { durations = numbers 0 3 1000001 0; lags = arc 1 9 (pos 0) ∷ [] }) ≡ Some
+    (Limit quantity.Duration)) × (first_fault (record b { capacities = negsuc 0 ∷ [] }) ≡ Some
+    (Limit quantity.Capacity)) × (first_fault (with_lags (arc 2 1 (pos 0) ∷ arc 1 2 (negsuc 1000000) ∷ [])) ≡ Some
+    (Limit quantity.Lag))
 b_limits = (refl, refl, refl)
 
-b_activity : (first_fault (with_lags (arc 1 2 (pos 0) ∷ arc 4 2 (pos 0) ∷ [])) ≡ Some (Activity 1 4)) × (first_fault (with_lags (arc 1 7 (pos 2000000) ∷ [])) ≡ Some (Activity 0 7))
+b_activity : (first_fault (with_lags (arc 1 2 (pos 0) ∷ arc 4 2 (pos 0) ∷ [])) ≡ Some (Activity 1 4))
+    × (first_fault (with_lags (arc 1 7 (pos 2000000) ∷ [])) ≡ Some (Activity 0 7))
 b_activity = (refl, refl)
 
 -- the arc of a pair comes last
-b_arcs : arcs_of (with_lags (arc 1 2 (pos 5) ∷ [])) (pair 2 1 ∷ []) ≡ arc 1 2 (pos 5) ∷ arc 0 1 (pos 0) ∷ arc 0 2 (pos 0) ∷ arc 0 3 (pos 0) ∷ arc 0 3 (pos 0) ∷ arc 1 3 (pos 3) ∷ arc 2 3 (pos 4) ∷ arc 2 1 (pos 4) ∷ []
+b_arcs : arcs_of (with_lags (arc 1 2 (pos 5) ∷ [])) (pair 2 1 ∷ []) ≡ arc 1 2 (pos 5) ∷ arc 0 1 (pos 0) ∷ arc 0 2
+    (pos 0) ∷ arc 0 3 (pos 0) ∷ arc 0 3 (pos 0) ∷ arc 1 3 (pos 3) ∷ arc 2 3 (pos 4) ∷ arc 2 1 (pos 4) ∷ []
 b_arcs = refl

@@ -1,10 +1,12 @@
 -- Which parts are those of a project, and the first fault of those that aren't.
-use Rattle.std.specs.Prelude.{ℕ, ◌+◌, ℤ, pos, neg_ℤ, int_le, Bool, true, false, ◌&&◌, nat_le, nat_lt, nat_eq, List, [], ◌∷◌, length, slice_index_or, Option, None, Some}
+use Rattle.std.specs.Prelude.{ℕ, ◌+◌, ℤ, pos, neg_ℤ, int_le, Bool, true, false, ◌&&◌, nat_le, nat_lt, nat_eq, List, []}
+use Rattle.std.specs.Prelude.{◌∷◌, length, slice_index_or, Option, None, Some}
 use Rattle.std.specs.List.{list_all}
 use Rattle.network.specs.declared.parts.ProjectFault.{ProjectFault}
 use Rattle.network.specs.declared.parts.ProjectFault.TheVariants.{Limit, Activity, Dummy, Shape}
 use Rattle.network.specs.declared.parts.Quantity.TheVariants as quantity
-use Rattle.network.specs.Problem.{Problem, activity_count, end_of, resource_count, duration, Lag, MAX_ACTIVITIES, MAX_AMOUNT, MAX_LAG_WEIGHT, MAX_LAGS, MAX_RESOURCES}
+use Rattle.network.specs.Problem.{Problem, activity_count, end_of, resource_count, duration, Lag, MAX_ACTIVITIES}
+use Rattle.network.specs.Problem.{MAX_AMOUNT, MAX_LAG_WEIGHT, MAX_LAGS, MAX_RESOURCES}
 
 -- the first of two faults
 abbrev pub or_else : Option ProjectFault → Option ProjectFault → Option ProjectFault

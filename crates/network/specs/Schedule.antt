@@ -4,6 +4,8 @@ use Rattle.std.specs.Prelude.{◌≡◌, ℕ, ◌-◌, ◌<◌, ◌≤◌, ℤ, 
 use Rattle.std.specs.List.{All, filter, sum_by, Contains}
 use Rattle.network.specs.Problem.{Problem, activity_count, activities, resource_count, duration, demand, capacity, rules, pair_arc, Lag, Pair}
 use Rattle.std.specs.List.Sorted.{IsStrictlyIncreasing}
+use Rattle.network.specs.declared.verdict.Verdict.{Verdict}
+use Rattle.network.specs.declared.verdict.Verdict.TheVariants as verdict
 
 -- when an activity starts
 abbrev pub start : List ℤ → ℕ → ℤ
@@ -109,3 +111,9 @@ pub record IsShortest (p : Problem) (c : ℤ) : Type 0 where
 
 abbrev pub HasNoSchedule : Problem → Type 0
 HasNoSchedule p = (s : List ℤ) → ¬ IsFeasible p s
+
+-- the verdict is true of the project
+abbrev pub IsTrueVerdict : Problem → Verdict → Type 0
+IsTrueVerdict p (verdict.Optimal makespan) = IsShortest p makespan
+IsTrueVerdict p (verdict.Bound bound) = IsLowerBound p bound
+IsTrueVerdict p verdict.NoSchedule = HasNoSchedule p

@@ -11,6 +11,7 @@ mod limits;
 mod parts;
 mod project;
 mod schedule;
+mod verdict;
 
 pub use horizon::{MAX_HORIZON, horizon_law, horizon_of};
 pub use limits::{
@@ -19,3 +20,4 @@ pub use limits::{
 pub use parts::{Lag, Pair, Parts, ProjectFault, Quantity};
 pub use project::Project;
 pub use schedule::Schedule;
+pub use verdict::Verdict;

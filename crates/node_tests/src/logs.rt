@@ -2,21 +2,20 @@
 
 use crate::projects::project;
 use lemma_record::{Checker, EventFault, LogPart, Wrong};
-use network::Project;
-use record_text::Proved;
+use network::{Project, Verdict};
 use std::alloc::Global;
 use std::process::Abort;
 use std::test::Fail;
 
 /// What a log proves that comes in one piece.
-fn at_once(alloc: Global, project: &Project, log: &[u8]) -> Result<Proved, EventFault> {
+fn at_once(alloc: Global, project: &Project, log: &[u8]) -> Result<Verdict, EventFault> {
     let mut checker = Checker::new(alloc, project, LogPart::whole())?;
     checker.feed(log)?;
     checker.finish()
 }
 
 /// What it proves that comes byte by byte.
-fn by_bytes(alloc: Global, project: &Project, log: &[u8]) -> Result<Proved, EventFault> {
+fn by_bytes(alloc: Global, project: &Project, log: &[u8]) -> Result<Verdict, EventFault> {
     let mut checker = Checker::new(alloc, project, LogPart::whole())?;
     for byte in log {
         checker.feed(&[*byte])?;
@@ -29,7 +28,7 @@ fn proves(
     rt: &impl Abort,
     alloc: Global,
     log: &[u8],
-    told: Result<Proved, EventFault>,
+    told: Result<Verdict, EventFault>,
 ) -> Result<(), Fail> {
     let project = project(alloc, &[0, 3, 0], &[&[0], &[1], &[0]], &[1], &[])?;
     assert_eq!(rt; at_once(alloc, &project, log), told, "of {log:?}");
@@ -44,15 +43,15 @@ fn proves(
 #[test]
 fn logs_that_are_right(rt: HostRuntime) -> Result<(), Fail> {
     let alloc = rt.alloc();
-    let logs: [(&[u8], Proved); 3] = [
+    let logs: [(&[u8], Verdict); 3] = [
         (
             b"record 3\n\x04\x0e\0\0\x06\x02\x03\x06",
-            Proved::Optimal { makespan: 3 },
+            Verdict::Optimal { makespan: 3 },
         ),
-        (b"record 3\n\x02\x07\x06", Proved::Bound { bound: 3 }),
+        (b"record 3\n\x02\x07\x06", Verdict::Bound { bound: 3 }),
         (
             b"record 3\n\x04\0\x01\x07\x04\x02\x07\x06",
-            Proved::Bound { bound: 3 },
+            Verdict::Bound { bound: 3 },
         ),
     ];
     for (log, proved) in logs {

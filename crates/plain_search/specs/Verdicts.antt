@@ -1,27 +1,29 @@
 -- When the outcome of a search is true of its project.
-use Rattle.std.specs.Prelude.{ℤ, ◌≤ℤ◌, ◌<ℤ◌, Option, IfSome, IsSomeAnd, List}
+use Rattle.std.specs.Prelude.{ℤ, ◌≤ℤ◌, ◌<ℤ◌, Option, Some, None, IfSome, IsSomeAnd}
 use Rattle.network.specs.Problem.{Problem}
-use Rattle.network.specs.Schedule.{ScheduleOf, IsFeasible, makespan, IsShortest, HasNoSchedule}
+use Rattle.network.specs.Schedule.{ScheduleOf, makespan, IsTrueVerdict}
+use Rattle.network.specs.declared.verdict.Verdict.{Verdict}
+use Rattle.network.specs.declared.verdict.Verdict.TheVariants as verdict
 use Rattle.branching.specs.Fair.{IsScheduleFor}
 use Rattle.plain_search.specs.declared.search.Outcome.{Outcome}
 use Rattle.plain_search.specs.declared.search.Outcome.TheVariants.{Optimal, NoSchedule, Stopped}
 
--- a feasible schedule, and no feasible one is shorter
-pub record IsOptimal (p : Problem) (best : ScheduleOf) : Type 0 where
-  pub found : IsScheduleFor p best
-  pub shortest : IsShortest p (makespan best.starts)
+-- the verdict of an outcome
+abbrev pub verdict_of : Outcome → Verdict
+verdict_of (Optimal best) = verdict.Optimal (makespan best.starts)
+verdict_of NoSchedule = verdict.NoSchedule
+verdict_of (Stopped best bound) = verdict.Bound bound
 
--- what is known where the search was stopped: the bound is at most every feasible makespan, and so at
--- most that of the best
-pub record IsStoppedAt (p : Problem) (best : Option ScheduleOf) (bound : ℤ) : Type 0 where
-  pub found : IfSome best (IsScheduleFor p)
-  pub of_best : IfSome best (λ s. bound ≤ℤ makespan s.starts)
-  pub holds : (s : List ℤ) → IsFeasible p s → bound ≤ℤ makespan s
+-- the shortest schedule that was found
+abbrev pub best_of : Outcome → Option ScheduleOf
+best_of (Optimal best) = Some best
+best_of NoSchedule = None
+best_of (Stopped best bound) = best
 
-abbrev pub IsTrueOf : Problem → Outcome → Type 0
-IsTrueOf p (Optimal best) = IsOptimal p best
-IsTrueOf p NoSchedule = HasNoSchedule p
-IsTrueOf p (Stopped best bound) = IsStoppedAt p best bound
+-- the verdict is true, and the best is a feasible schedule
+pub record IsTrueOf (p : Problem) (outcome : Outcome) : Type 0 where
+  pub verdict : IsTrueVerdict p (verdict_of outcome)
+  pub found : IfSome (best_of outcome) (IsScheduleFor p)
 
 -- a schedule is told, and it takes at most so many periods
 abbrev pub IsNoLongerThan : ℤ → Outcome → Type 0

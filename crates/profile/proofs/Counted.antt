@@ -1,5 +1,7 @@
 -- What has started less what has ended, counted along two orders, is what is in use.
-use Rattle.std.proofs.Common.{ℕ, zero, suc, ◌≤◌, List, [], ◌∷◌, get_or, arith, ◌≡◌, ◌+◌, ◌<◌, Bool, true, false, cond, ◌&&◌, length, take, drop, replicate, refl, sym, ap, ◌∙◌, ℤ, pos, ◌≤ℤ◌, unsigned_abs, negsuc, ◌+ℤ◌, ◌<ℤ◌, int_le, int_lt}
+use Rattle.std.proofs.Common.{ℕ, zero, suc, ◌≤◌, List, [], ◌∷◌, get_or, arith, ◌≡◌, ◌+◌, ◌<◌, Bool, true, false, cond}
+use Rattle.std.proofs.Common.{◌&&◌, length, take, drop, replicate, refl, sym, ap, ◌∙◌, ℤ, pos, ◌≤ℤ◌, unsigned_abs}
+use Rattle.std.proofs.Common.{negsuc, ◌+ℤ◌, ◌<ℤ◌, int_le, int_lt}
 use Rattle.std.specs.List.{All, AllByRecursion, sum_by, filter}
 use Rattle.std.proofs.lemmas.Int.{ints, by_lt_z}
 use Rattle.std.proofs.lemmas.List.Elements.{recursion_from_All, All-from_get_or}
@@ -104,7 +106,8 @@ activity_at p c sized place lt = order_inside (activity_count p) c.order.items s
 pub have_times : (p : Problem) (c : Count) → HasRoomFor p c → HaveKeys c.times.items c.order.items
 have_times p c sized = have_keys (activity_count p) c.times.items c.order.items sized.each sized.is_order
 
-pub count_more : (p : Problem) (c new : Count) → IsCount p c → c.passed < length c.order.items → new.times ≡ c.times → new.order ≡ c.order → new.passed ≡ c.passed + 1 → length new.totals.items ≡ length c.totals.items →
+pub count_more : (p : Problem) (c new : Count) → IsCount p c → c.passed < length c.order.items → new.times ≡ c.times
+    → new.order ≡ c.order → new.passed ≡ c.passed + 1 → length new.totals.items ≡ length c.totals.items →
     AddsDemands p (get_or c.order.items c.passed 0) c.totals.items new.totals.items → IsCount p new
 count_more p c new is lt times order next long more = record {
   limits = is.limits;
@@ -124,18 +127,26 @@ counts_small p c is =
     All-from_get_or (λ total. total ≤ 2000000000) c.totals.items 0 (λ k lt.
     let each : All (λ i. demand p k i ≤ unsigned_abs MAX_AMOUNT) order = λ j d l. demand_small p is.limits k (get_or order j d) in
     let few : activity_count p ≤ MAX_ACTIVITIES = is.limits.activity_limit in
-    omega (arith, is.sums k (rw is.sized.columns at lt), sum_by-take-le (demand p k) order c.passed, sum_by-le (demand p k) (unsigned_abs MAX_AMOUNT) order each, order_long (activity_count p) order is.sized.is_order))
+    omega (
+      arith,
+      is.sums k (rw is.sized.columns at lt),
+      sum_by-take-le (demand p k) order c.passed,
+      sum_by-le (demand p k) (unsigned_abs MAX_AMOUNT) order each,
+      order_long (activity_count p) order is.sized.is_order,
+    ))
 
 -- ---- the totals by activity
 
 pub come_total : (p : Problem) (at : ℕ → ℤ) (c : Count) (t : ℤ) → IsCount p c → HasCome c t →
-    ((i : ℕ) → i < activity_count p → get_or c.times.items i (pos 0) ≡ at i) → (k : ℕ) → k < resource_count p → get_or c.totals.items k 0 ≡ sum_by (kept (λ i. int_le (at i) t) (demand p k)) (activities p)
+    ((i : ℕ) → i < activity_count p → get_or c.times.items i (pos 0) ≡ at i) → (k : ℕ) → k < resource_count p
+    → get_or c.totals.items k 0 ≡ sum_by (kept (λ i. int_le (at i) t) (demand p k)) (activities p)
 come_total p at c t is come times_are k in_range =
     let order = c.order.items in
     let test : ℕ → Bool = λ i. int_le (at i) t in
     let f = demand p k in
     let inside = order_inside (activity_count p) order is.sized.is_order in
-    let time_is : (i d : ℕ) → i < length order → time_at c i ≡ at (get_or order i d) = λ i d lt. times_are (get_or order i 0) (inside i 0 lt) ∙ ap at (get_or_default order i 0 d lt) in
+    let time_is : (i d : ℕ) → i < length order → time_at c i ≡ at (get_or order i d) = λ i d lt.
+    times_are (get_or order i 0) (inside i 0 lt) ∙ ap at (get_or_default order i 0 d lt) in
     let past : AllByRecursion (λ i. test i ≡ true) (take c.passed order) =
     recursion_from_All (λ i. test i ≡ true) (take c.passed order) (λ j d lt.
     let below : j < c.passed = omega (arith, length-take {A = ℕ}) in
@@ -163,7 +174,8 @@ pub record AreCounts (p : Problem) (t : ℤ) (started ended : Count) : Type 0 wh
   pub ends_come : HasCome ended t
 
 -- both counts go on to a time
-pub counts_further : (p : Problem) (t : ℤ) (before was started ended : Count) → AreEnds p before.times.items was.times.items → IsSameOrder before started → IsSameOrder was ended →
+pub counts_further : (p : Problem) (t : ℤ) (before was started ended : Count)
+    → AreEnds p before.times.items was.times.items → IsSameOrder before started → IsSameOrder was ended →
     IsCount p started → HasCome started t → IsCount p ended → HasCome ended t → AreCounts p t started ended
 counts_further p t before was started ended are_ends starts_same ends_same starts starts_come ends ends_come = record {
   are_ends = rw (starts_same.times, ends_same.times) are_ends;
@@ -180,7 +192,8 @@ used_is p t started ended are k in_range =
     let in_use = sum_by-filter (is_running p s t) (demand p k) (activities p) in
     let begun = come_total p (start s) started t are.starts are.starts_come (λ i lt. refl) k in_range in
     let done = come_total p (end_time p s) ended t are.ends are.ends_come are.are_ends.each k in_range in
-    let split = sum_by-split (kept (is_running p s t) (demand p k)) (kept (λ i. int_le (end_time p s i) t) (demand p k)) (kept (λ i. int_le (start s i) t) (demand p k)) (activities p)
+    let split = sum_by-split (kept (is_running p s t) (demand p k)) (kept (λ i. int_le (end_time p s i) t) (demand p k))
+    (kept (λ i. int_le (start s i) t) (demand p k)) (activities p)
     (λ i. one_activity (start s i) (duration p i) t (demand p k i) (duration_nonnegative p are.starts.limits i)) in
     omega (arith, in_use, begun, done, split)
 
@@ -199,7 +212,10 @@ counted_is p t started ended are k in_range = omega (arith, used_is p t started 
 pub written : (v : Vec ℤ) (old new : List ℤ) → length new ≡ length old → old ≡ v.items → (with_items v new).items ≡ new
 written v old new long are = with_items_is v new (long ∙ ap (λ (xs : List ℤ). length xs) are ∙ sym v.ok.0)
 
-pub count_none : (p : Problem) (old new : Count) → IsProject p → HasRoomFor p old → IsPermutation old.order.items new.order.items → Rises new.times.items new.order.items → length new.times.items ≡ activity_count p → new.passed ≡ 0 → new.totals.items ≡ replicate (length old.totals.items) 0 → IsCount p new
+pub count_none : (p : Problem) (old new : Count) → IsProject p → HasRoomFor p old
+    → IsPermutation old.order.items new.order.items → Rises new.times.items new.order.items
+    → length new.times.items ≡ activity_count p → new.passed ≡ 0
+    → new.totals.items ≡ replicate (length old.totals.items) 0 → IsCount p new
 count_none p old new limits sized kept rises each none zeros = record {
   limits = limits;
   sized = record {
@@ -212,7 +228,8 @@ count_none p old new limits sized kept rises each none zeros = record {
   sums = λ k in_range. rw (zeros, none) (get_or-replicate (length old.totals.items) k 0 0 (rw sized.columns in_range));
 }
 
-come_none : (p : Problem) (c : Count) (t : ℤ) → IsCount p c → c.passed ≡ 0 → ((i : ℕ) → i < activity_count p → t <ℤ get_or c.times.items i (pos 0)) → HasCome c t
+come_none : (p : Problem) (c : Count) (t : ℤ) → IsCount p c → c.passed ≡ 0
+    → ((i : ℕ) → i < activity_count p → t <ℤ get_or c.times.items i (pos 0)) → HasCome c t
 come_none p c t is none early = record {
   past = λ i lt. absurd (omega arith);
   future = λ some. early (get_or c.order.items c.passed 0) (activity_at p c is.sized c.passed some);

@@ -1,14 +1,17 @@
 //! `psmax`: solves projects with resources and time lags, and proves every answer.
 #![tactic(auto)]
 
-ghost use Rattle.calls.specs.Calls.{IsCall};
+ghost use Rattle.calls.specs.Calls.{IsCall, IsPsmaxCall};
 ghost use Rattle.runs.specs.Outcome.{IsJob, has_workers};
 ghost use Rattle.runs.specs.declared.job.Job.TheVariants as jobs;
 ghost use Rattle.std.specs.Prelude.{◌≡◌, false, true, IfOk};
 
-use calls::{ArgumentsFault, Call, FOLDER, Opener, call_of, refuse, refuse_files, report, words};
+use calls::{
+    ArgumentsFault, Call, FOLDER, Opener, PsmaxCall, call_of, refuse, refuse_files, report, verify,
+    words,
+};
 use psmax_run::run_parallel;
-use runs::{InputReader, OutputWriter, SearchOptions, run};
+use runs::{InputReader, OutputWriter, RecordKind, SearchOptions, run};
 use std::alloc::Global;
 use std::process::ExitCode;
 use std::rt::Runtime;
@@ -66,8 +69,8 @@ fn search<R: Runtime + Threads + Wait + Sync>(
 }
 
 /// The call that the words of the command line make.
-fn line_call(rt: &HostRuntime) -> Result<Call, ArgumentsFault>
-    ensures { IfOk result IsCall }
+fn line_call(rt: &HostRuntime) -> Result<PsmaxCall, ArgumentsFault>
+    ensures { IfOk result IsPsmaxCall }
 {
     call_of(rt.alloc(), &words(rt)?)
 }
@@ -79,6 +82,12 @@ fn main(rt: HostRuntime) -> ExitCode {
     let call = match line_call(&rt) {
         Ok(call) => call,
         Err(fault) => return refuse(&rt, PROGRAM, &fault),
+    };
+    let call = match call {
+        PsmaxCall::Run(call) => call,
+        PsmaxCall::Verify(call) => {
+            return verify(&rt, PROGRAM, rt.alloc(), RecordKind::Tree, &call);
+        }
     };
     match call.job.by_workers() {
         Some(options) => search(&rt, rt.alloc(), &call, options),

@@ -58,7 +58,8 @@ replies_alone o p start outcome reply exit text says is within off exit_is text_
 }
 
 -- and with one
-pub replies_recorded : (o : SearchOptions) (p : Problem) (start : Option ScheduleOf) (outcome : Outcome) (reply : ReplyOf) (exit : ℕ) (text : List ℕ) (kept : Option (List ℕ)) →
+pub replies_recorded : (o : SearchOptions) (p : Problem) (start : Option ScheduleOf) (outcome : Outcome)
+    (reply : ReplyOf) (exit : ℕ) (text : List ℕ) (kept : Option (List ℕ)) →
     SaysOutcome outcome o.json exit text → IsTrueOf p outcome → IfSome start (λ s. IsNoLongerThan (makespan s.starts) outcome) →
     o.recorded ≡ true → IsOutcomeRecord p outcome kept →
     reply.exit ≡ exit → reply.text ≡ text → reply.recorded ≡ kept → IsSearchReply o p start reply

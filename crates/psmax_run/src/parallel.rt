@@ -13,7 +13,6 @@ use runs::{Ended, Input, Output, Reply, SearchOptions, read_project, read_text, 
 use std::alloc::Global;
 use std::sync::{Arc, Wait};
 use std::thread::Threads;
-use words::MAX_TEXT_BYTES;
 use worker::Gate;
 
 /// The reply of a search by workers to what its inputs hold. The project is read and judged before the
@@ -43,7 +42,7 @@ fn searched_reply<I: Input, S: Input, G: Gate, R: Threads + Wait + Sync>(
         let project = Arc::new(alloc, project)?;
         return searched(rt, alloc, options, project, None, gate);
     }
-    let starts = read_text(alloc, MAX_TEXT_BYTES, second)?;
+    let starts = read_text(alloc, second)?;
     searched_from(rt, alloc, options, project, &starts, gate)
 }
 

@@ -4,7 +4,8 @@ ghost use Rattle.std.specs.Prelude.{◌≡◌, IfOk, IfSome, option_map};
 ghost use Rattle.search_log.specs.RightTrail.{IsWholeTree};
 ghost use Rattle.branching.specs.Fair.{ceiling_of, IsScheduleFor};
 ghost use Rattle.search_record.specs.Right.{claim_of};
-ghost use Rattle.worker.specs.Solving.{IsTrailOf, best_of};
+ghost use Rattle.plain_search.specs.Verdicts.{best_of};
+ghost use Rattle.worker.specs.Solving.{IsTrailOf};
 ghost use Rattle.psmax_run.specs.Searches.{IsOutcomeRecord, IsTextOf};
 
 use network::Schedule;

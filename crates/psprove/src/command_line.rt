@@ -1,15 +1,14 @@
 //! The words of the command line, by `clap`.
 
 use crate::cube::CubeWork;
-use crate::help;
+use crate::{PROGRAM, help};
 use calls::{
-    ArgumentsFault, file, file_name, flag, matches_of, number, program_command, project_subcommand,
-    subcommand, words,
+    ArgumentsFault, VerifyCall, file, file_name, flag, heading, matches_of, number,
+    program_command, project_subcommand, subcommand, verify_call, verify_command, words,
 };
-use clap::{Arg, ArgAction, ArgMatches, Command};
+use clap::{Arg, ArgMatches, Command};
 use cubes::Limit;
 use psprove_run::{MAX_JOBS, Progress, SolveOptions};
-use runs::{LogPart, Scope};
 use std::alloc::{AllocError, Global};
 
 /// How many seconds a search has by default.
@@ -36,8 +35,7 @@ const FORMS: &[&str] = &["lines", "json"];
 /// What words ask for.
 #[derive(Debug, Drop)]
 pub(crate) enum Subcommand {
-    /// To check what of a log, against the project in a file.
-    Verify { project: String, scope: Scope },
+    Verify(VerifyCall),
     Solve(SolveCall),
     Cube(CubeWork),
 }
@@ -48,15 +46,15 @@ pub(crate) struct SolveCall {
     pub(crate) asked: SolveOptions,
     /// The starts that it begins with.
     pub(crate) start: Option<String>,
-    /// The log that it goes on from.
+    /// The record that it goes on from.
     pub(crate) resume: Option<String>,
-    /// Its own log.
+    /// Its own record.
     pub(crate) record: Option<String>,
     /// A file that ends it.
     pub(crate) until: Option<String>,
     /// The project, if it is not on standard input.
     pub(crate) project: Option<String>,
-    /// The cubes whose logs are joined.
+    /// The cubes whose records are joined.
     pub(crate) tree: Option<String>,
 }
 
@@ -65,9 +63,9 @@ const MAX_PIECES: i64 = 1_024;
 
 /// The options that say how far a search goes.
 fn with_limits<'a>(alloc: Global, command: Command<'a>) -> Result<Command<'a>, AllocError> {
-    let seconds = "CubeFailure after S seconds";
-    let conflicts = "CubeFailure each search after N conflicts";
-    let until = "CubeFailure once there is a file FILE";
+    let seconds = "End after S seconds";
+    let conflicts = "End each search after N conflicts";
+    let until = "End once there is a file FILE";
     let jobs = "Run N searches side by side, each in its own thread, 1 to 64";
     let seed = "Break ties by the seed K";
     let memory = "Limit the lemmas of each search to MIB MiB";
@@ -98,7 +96,7 @@ fn of_cube<'a>(alloc: Global, name: &'a str, about: &'a str) -> Result<Arg<'a>, 
 
 /// The options of a search of a cube.
 fn with_cube<'a>(alloc: Global, command: Command<'a>) -> Result<Command<'a>, AllocError> {
-    let under = "SolveCall the cube whose path is in FILE: an arc a line, FROM TO WEIGHT";
+    let under = "Search the cube whose path is in FILE: an arc a line, FROM TO WEIGHT";
     let project = "Read the project of the cube from FILE";
     let import = "Use the lemmas in FILE, which searches of other cubes exported";
     let export = "Write lemmas for searches of other cubes into FILE";
@@ -123,13 +121,13 @@ fn with_cube<'a>(alloc: Global, command: Command<'a>) -> Result<Command<'a>, All
         .arg(flag(alloc, "follow", follow).requires_arg("under")?)
 }
 
-fn solve_command<'a>(alloc: Global) -> Result<Command<'a>, AllocError> {
-    let about = "Print a shortest schedule of a project, with a log of lemmas that proves it";
+fn solve_command<'a>(alloc: Global, heading: &'a str) -> Result<Command<'a>, AllocError> {
+    let about = "Print a shortest schedule of a project, with a record of lemmas that proves it";
     let start = "Start from the feasible schedule in FILE";
     let json = "Print the answer as one line of JSON";
-    let record = "Write the log that proves the answer into FILE";
-    let resume = "Go on from the log in FILE";
-    let command = subcommand(alloc, help::HEADING, "solve", about, help::SOLVE);
+    let record = "Write the record that proves the answer into FILE";
+    let resume = "Go on from the record in FILE";
+    let command = subcommand(alloc, heading, "solve", about, help::SOLVE);
     let command = with_limits(alloc, command)?
         .arg(file(alloc, "start", start))?
         .arg(file(alloc, "resume", resume))?
@@ -139,40 +137,25 @@ fn solve_command<'a>(alloc: Global) -> Result<Command<'a>, AllocError> {
     with_cube(alloc, command)
 }
 
-fn join_command<'a>(alloc: Global) -> Result<Command<'a>, AllocError> {
-    let about = "Join the logs of cubes into one log of the project";
-    let tree = "Read the cubes from FILE: NAME LOG LEMMAS and the path, a cube a line";
+fn join_command<'a>(alloc: Global, heading: &'a str) -> Result<Command<'a>, AllocError> {
+    let about = "Join the records of cubes into one record of the project";
+    let tree = "Read the cubes from FILE: NAME RECORD LEMMAS and the path, a cube a line";
     let start = "Begin with the feasible schedule in FILE";
     let json = "Print the answer as one line of JSON";
-    let record = "Write the log that proves the answer into FILE";
-    project_subcommand(alloc, help::HEADING, "join", about, help::JOIN)?
+    let record = "Write the record that proves the answer into FILE";
+    project_subcommand(alloc, heading, "join", about, help::JOIN)?
         .arg(file(alloc, "tree", tree).required(true))?
         .arg(file(alloc, "start", start))?
         .arg(flag(alloc, "json", json))?
         .arg(file(alloc, "record", record))
 }
 
-fn verify_command<'a>(alloc: Global) -> Result<Command<'a>, AllocError> {
-    let about = "Check a log of lemmas against a project in a file";
-    let partial = "Take a log that is cut off, and print what its events prove";
-    let part = "Check part K of N of the lemmas, 1 to N";
-    let part = Arg::new(alloc, "part")
-        .long("part")
-        .value_name("K/N")
-        .help(part)
-        .action(ArgAction::Set);
-    project_subcommand(alloc, help::HEADING, "verify", about, help::VERIFY)?
-        .arg(flag(alloc, "partial", partial).conflicts_with("part")?)?
-        .arg(part)
-}
-
-fn command<'a>(alloc: Global) -> Result<Command<'a>, AllocError> {
-    let heading = help::HEADING;
-    let about = "Solve projects with resources and time lags, and check logs of lemmas";
+fn command<'a>(alloc: Global, heading: &'a str) -> Result<Command<'a>, AllocError> {
+    let about = "Solve projects with resources and time lags, and check records";
     program_command(alloc, "psprove", heading, about, help::PROGRAM)?
-        .subcommand(solve_command(alloc)?)?
-        .subcommand(verify_command(alloc)?)?
-        .subcommand(join_command(alloc)?)
+        .subcommand(solve_command(alloc, heading)?)?
+        .subcommand(verify_command(alloc, heading)?)?
+        .subcommand(join_command(alloc, heading)?)
 }
 
 /// What is reported while a search goes on.
@@ -216,7 +199,7 @@ fn search_of(alloc: Global, matches: &ArgMatches<'_>) -> Result<SolveCall, Alloc
     })
 }
 
-/// A join of logs: a search of no seconds that begins with them.
+/// A join of records: a search of no seconds that begins with them.
 fn join_of(alloc: Global, matches: &ArgMatches<'_>) -> Result<SolveCall, AllocError> {
     let start = file_name(alloc, matches, "start")?;
     let asked = SolveOptions {
@@ -277,34 +260,6 @@ fn solve_of(alloc: Global, matches: &ArgMatches<'_>) -> Result<Subcommand, Alloc
     }
 }
 
-/// The part that a word names, as `2/8`.
-fn part_of(word: &str) -> Option<LogPart> {
-    let (number, count) = word.split_once('/')?;
-    LogPart::new(number.parse().ok()?, count.parse().ok()?)
-}
-
-/// That a word names no part, as `clap` would say it.
-fn no_part(alloc: Global, word: &str) -> Result<ArgumentsFault, AllocError> {
-    let text = format!(in alloc;
-        "error: invalid value '{word}' for '--part <K/N>': K is not in 1..=N\n\nFor more information, try '--help'.\n"
-    )?;
-    Ok(ArgumentsFault::Bad { text })
-}
-
-/// What of a log is to be checked.
-fn scope_of(alloc: Global, matches: &ArgMatches<'_>) -> Result<Scope, ArgumentsFault> {
-    let Some(word) = file_name(alloc, matches, "part")? else {
-        return Ok(match matches.get_flag("partial") {
-            true => Scope::SoFar,
-            false => Scope::Whole,
-        });
-    };
-    match part_of(word.as_str()) {
-        Some(part) => Ok(Scope::Part(part)),
-        None => Err(no_part(alloc, word.as_str())?),
-    }
-}
-
 /// What the matches ask for. None if words ask for nothing, which `clap` doesn't let pass.
 fn found_work(
     alloc: Global,
@@ -313,13 +268,7 @@ fn found_work(
     match matches.subcommand() {
         Some(("solve", found)) => Ok(Some(solve_of(alloc, found)?)),
         Some(("join", found)) => Ok(Some(Subcommand::Solve(join_of(alloc, found)?))),
-        Some(("verify", found)) => match file_name(alloc, found, "project")? {
-            Some(project) => Ok(Some(Subcommand::Verify {
-                project,
-                scope: scope_of(alloc, found)?,
-            })),
-            None => Ok(None),
-        },
+        Some(("verify", found)) => Ok(verify_call(alloc, found)?.map(Subcommand::Verify)),
         _ => Ok(None),
     }
 }
@@ -327,7 +276,8 @@ fn found_work(
 /// What the words of the command line ask for.
 pub(crate) fn work_of(rt: &HostRuntime) -> Result<Subcommand, ArgumentsFault> {
     let (alloc, words) = (rt.alloc(), words(rt)?);
-    let matches = matches_of(alloc, command(alloc)?, &words)?;
+    let heading = heading(alloc, PROGRAM)?;
+    let matches = matches_of(alloc, command(alloc, &heading)?, &words)?;
     found_work(alloc, &matches)?.ok_or(ArgumentsFault::Bad {
         text: String::new(alloc),
     })

@@ -11,43 +11,20 @@ mod record_file;
 mod search;
 
 use answers::Fault;
-use calls::{FOLDER, refuse, refuse_file, report};
+use calls::{FOLDER, refuse, report, verify};
 use command_line::{Subcommand, work_of};
 use following::{Heard, ear, listen};
-use runs::{Ended, InputReader, LogEnded, OutputWriter, Scope, run_log};
+use runs::{Ended, RecordKind};
 use std::alloc::Global;
-use std::io::{ErrorKind, IsTerminal};
+use std::io::IsTerminal;
 use std::process::ExitCode;
 use std::rt::Runtime;
 use std::sync::{Arc, Mutex, Wait};
 use std::thread::Threads;
-use std::{fs, io, thread};
+use std::{fs, thread};
 
 /// The program's name in what it prints.
 pub(crate) const PROGRAM: &str = "psprove";
-
-/// Prints how a run over a log ended, where it proves nothing.
-fn report_log<R: Eprint>(rt: &R, ended: &LogEnded) -> ExitCode {
-    if let Some(fault) = ended.fault {
-        let _ = eprintln!(rt; "{PROGRAM}: {fault}");
-    }
-    ExitCode::from(ended.exit)
-}
-
-/// Opens the project's file, and checks what is asked of the log on standard input against it.
-fn verify<R: Runtime>(rt: &R, alloc: Global, name: &String, scope: &Scope) -> ExitCode {
-    let mut second = match fs::open(rt, name.as_str()) {
-        Ok(file) => InputReader::new(file),
-        Err(error) if error.kind() == ErrorKind::OutOfMemory => {
-            return report(rt, PROGRAM, &Ended::with(Fault::Memory));
-        }
-        Err(_) => return refuse_file(rt, PROGRAM, Some(name)),
-    };
-    let mut input = InputReader::new(rt.reader());
-    let mut out = OutputWriter::new(io::writer(rt));
-    let ended = run_log(alloc, scope, &mut input, &mut second, &mut out);
-    report_log(rt, &ended)
-}
 
 /// Says what a search waits for, where standard input is a terminal.
 fn tell_wait(rt: &HostRuntime, work: &Subcommand) {
@@ -68,7 +45,7 @@ fn perform<R: Runtime + Threads + Wait + Sync>(
     let _output = fs::open(rt, FOLDER);
     let _faults = fs::open(rt, FOLDER);
     let done = match work {
-        Subcommand::Verify { project, scope } => Ok(verify(rt, alloc, &project, &scope)),
+        Subcommand::Verify(call) => Ok(verify(rt, PROGRAM, alloc, RecordKind::Lemmas, &call)),
         Subcommand::Solve(work) => search::begin(rt, alloc, work),
         Subcommand::Cube(work) => cube::search(rt, alloc, &work, heard),
     };

@@ -1,5 +1,6 @@
 -- How a run ends: what was written of a record before the answer, and after it.
-use Rattle.std.proofs.Common.{◌≡◌, ◌≢◌, ◌⊎◌, ◌+◌, Bool, true, false, ℕ, List, [], ◌++◌, length, take, Option, None, Some, MatchOption, Result, Ok, Err, refl, sym, ap, ◌∙◌, subst, arith, inl, inr, ⊎_elim}
+use Rattle.std.proofs.Common.{◌≡◌, ◌≢◌, ◌⊎◌, ◌+◌, Bool, true, false, ℕ, List, [], ◌++◌, length, take, Option, None}
+use Rattle.std.proofs.Common.{Some, MatchOption, Result, Ok, Err, refl, sym, ap, ◌∙◌, subst, arith, inl, inr, ⊎_elim}
 use Rattle.std.specs.Prelude.{IfNone, IfSome, IsSomeAnd}
 use Rattle.std.specs.Option.{option_map}
 use Rattle.std.specs.Io.KnownBytes.{Appends}
@@ -60,7 +61,8 @@ module _ {O D : Type 0} (held : D → Option (List ℕ)) (failed : D → ℕ) (o
       short
 
   -- what was written before has not failed
-  pub failed_after : {Here : Type 0} → failed mid ≡ failed old → OneFailedWhere Here out (span held failed mid new) → OneFailedWhere Here out (span held failed old new)
+  pub failed_after : {Here : Type 0} → failed mid ≡ failed old → OneFailedWhere Here out (span held failed mid new)
+      → OneFailedWhere Here out (span held failed old new)
   failed_after same one = record {
     here = λ is. ⊎_elim (λ left. inl (left.0, left.1 ∙ same)) (λ right. inr (right.0, right.1 ∙ ap (λ (n : ℕ). n + 1) same)) (one.here is);
     elsewhere = λ no. let never = one.elsewhere no in (never.0, never.1 ∙ same);
@@ -104,7 +106,8 @@ not_both None e is other bad = cc bad
 not_both (Some fault) e is other bad = other (sym (cc bad) ∙ is)
 
 -- a reply is there: it is written, or an output fails
-pub replied : {I S O D : Type 0} (held : D → Option (List ℕ)) (failed : D → ℕ) (old mid new : D) (asked : SolveOptions) (input : Span I) (second : Span S) (out : Span O) (text : List ℕ) (reply : ReplyOf) (ended : Ended) (P : Type 0)
+pub replied : {I S O D : Type 0} (held : D → Option (List ℕ)) (failed : D → ℕ) (old mid new : D) (asked : SolveOptions)
+    (input : Span I) (second : Span S) (out : Span O) (text : List ℕ) (reply : ReplyOf) (ended : Ended) (P : Type 0)
     → Appends (held old) (held mid) text → failed mid ≡ failed old → (reply.recorded ≡ None → mid ≡ old)
     → IfTextsKnown asked.start input.told second.told (IsReply asked (continued text reply))
     → ¬ P → HasRead (search_inputs asked.start) P input second
@@ -151,7 +154,9 @@ failures_of held failed old new text bytes false is = ((λ on. absurd (cc on)), 
 failures_of held failed old new text bytes true is = ((λ on. is.copied.1), (λ off. absurd (off refl)))
 
 -- there is none: what was searched is in the record at most
-pub unanswered : {I S O D : Type 0} (held : D → Option (List ℕ)) (failed : D → ℕ) (old new : D) (asked : SolveOptions) (input : Span I) (second : Span S) (out_held : O → Option (List ℕ)) (out_failed : O → ℕ) (out : O) (text : List ℕ) (bytes : ℕ) (has_failed : Bool) (fault : Fault) (ended : Ended) (P : Type 0)
+pub unanswered : {I S O D : Type 0} (held : D → Option (List ℕ)) (failed : D → ℕ) (old new : D) (asked : SolveOptions)
+    (input : Span I) (second : Span S) (out_held : O → Option (List ℕ)) (out_failed : O → ℕ) (out : O) (text : List ℕ)
+    (bytes : ℕ) (has_failed : Bool) (fault : Fault) (ended : Ended) (P : Type 0)
     → IsRecorder (held old) (failed old) (held new) (failed new) text bytes has_failed
     → (fault ≡ faults.WriteFailed → has_failed ≡ true) → (has_failed ≡ true → fault ≡ faults.WriteFailed)
     → ended.fault ≡ Some fault → ended.exit ≡ exit_of fault
@@ -159,31 +164,32 @@ pub unanswered : {I S O D : Type 0} (held : D → Option (List ℕ)) (failed : D
     → (exit_of fault ≢ 1 → new ≡ old)
     → (P → fault ≡ faults.ReadFailed) → (fault ≡ faults.ReadFailed → P) → HasRead (search_inputs asked.start) P input second
     → Solves asked input second (span out_held out_failed out out) (span held failed old new) ended
-unanswered held failed old new asked input second out_held out_failed out text bytes has_failed fault ended P is write failing told status none untouched of_read to_read read = record {
-  replied = rw told tt;
-  cut_off = λ bad. inr here;
-  refused = rw told none;
-  silent = rw told (λ other. here);
-  unsearched = rw told untouched;
-  status = rw told status;
-  read = record {
-    inputs = record {
-      within = read.inputs.within;
-      second_within = read.inputs.second_within;
-      failed = record {
-        here = λ bad. read.inputs.failed.here (to_read (some_is bad));
-        elsewhere = λ no. read.inputs.failed.elsewhere (λ yes. no (told ∙ ap Some (of_read yes)));
+unanswered held failed old new asked input second out_held out_failed out text bytes has_failed fault ended P is write
+    failing told status none untouched of_read to_read read = record {
+      replied = rw told tt;
+      cut_off = λ bad. inr here;
+      refused = rw told none;
+      silent = rw told (λ other. here);
+      unsearched = rw told untouched;
+      status = rw told status;
+      read = record {
+        inputs = record {
+          within = read.inputs.within;
+          second_within = read.inputs.second_within;
+          failed = record {
+            here = λ bad. read.inputs.failed.here (to_read (some_is bad));
+            elsewhere = λ no. read.inputs.failed.elsewhere (λ yes. no (told ∙ ap Some (of_read yes)));
+          };
+        };
+        unused = read.unused;
+        project_second = read.project_second;
+        project_first = read.project_first;
       };
-    };
-    unused = read.unused;
-    project_second = read.project_second;
-    project_first = read.project_first;
-  };
-  failed = record {
-    here = λ bad. inr (refl, (failures_of held failed old new text bytes has_failed is).0 (write (some_is bad)));
-    elsewhere = λ no. (refl, (failures_of held failed old new text bytes has_failed is).1 (λ on. no (told ∙ ap Some (failing on))));
-  };
-}
+      failed = record {
+        here = λ bad. inr (refl, (failures_of held failed old new text bytes has_failed is).0 (write (some_is bad)));
+        elsewhere = λ no. (refl, (failures_of held failed old new text bytes has_failed is).1 (λ on. no (told ∙ ap Some (failing on))));
+      };
+    }
   where
     some_is : {e : Fault} → ended.fault ≡ Some e → fault ≡ e
     some_is bad = cc (told, bad)

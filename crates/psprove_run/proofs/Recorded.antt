@@ -1,5 +1,6 @@
 -- What the device of a record took.
-use Rattle.std.proofs.Common.{◌≡◌, ◌<◌, ◌+◌, ◌-◌, ◌^◌, Bool, true, false, ℕ, List, [], ◌++◌, length, min, take, Option, refl, sym, ap, ◌∙◌, arith, inl, inr, length-append}
+use Rattle.std.proofs.Common.{◌≡◌, ◌<◌, ◌+◌, ◌-◌, ◌^◌, Bool, true, false, ℕ, List, [], ◌++◌, length, min, take, Option}
+use Rattle.std.proofs.Common.{refl, sym, ap, ◌∙◌, arith, inl, inr, length-append}
 use Rattle.std.specs.Io.KnownBytes.{Appends}
 use Rattle.std.proofs.KnownBytes.{Appends-nil, Appends-trans}
 use Rattle.std.proofs.Math.Seq.{take-append-add}
@@ -29,7 +30,8 @@ copied_more told mid after failures failures_mid failures_after text piece true 
     )
 
 -- the device was given a piece more
-pub recorded_more : (told mid after : Option (List ℕ)) (failures failures_mid failures_after : ℕ) (text piece : List ℕ) (bytes more : ℕ) (failed : Bool) (l : LedgerOf)
+pub recorded_more : (told mid after : Option (List ℕ)) (failures failures_mid failures_after : ℕ) (text piece : List ℕ)
+    (bytes more : ℕ) (failed : Bool) (l : LedgerOf)
     → IsRecorder told failures mid failures_mid text bytes false
     → IsLogOf l (text ++ piece)
     → IsCopied failed mid after failures_mid failures_after piece

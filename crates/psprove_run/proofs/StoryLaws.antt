@@ -6,22 +6,21 @@ use Rattle.answers.specs.declared.fault.Fault.{Fault}
 use Rattle.answers.specs.declared.fault.Fault.TheVariants as faults
 use Rattle.runs.specs.Runs.{Span, GaveUpTo, IsUntouched, NeverFailed, HasRead, ReplyOf}
 use Rattle.runs.specs.Outcome.{GivesStarts, SpellsOne, search_inputs}
-use Rattle.psprove_run.specs.Story.{IsShown, IsShownReply, IsStartedReply, ReplyTo, claim_of}
+use Rattle.psprove_run.specs.Story.{IsShown, IsShownReply, IsStartedReply, ReplyTo}
 use Rattle.network.specs.Problem.{Problem}
 use Rattle.plain_search.specs.declared.search.Outcome.{Outcome}
-use Rattle.plain_search.specs.Verdicts.{IsTrueOf}
-use Rattle.record_text.specs.declared.proved.Proved.{Proved}
-use Rattle.lemma_log.specs.declared.event.Claim.{Claim}
-use Rattle.lemma_log.specs.declared.event.Claim.TheVariants as claims
+use Rattle.plain_search.specs.Verdicts.{IsTrueOf, verdict_of}
+use Rattle.network.specs.declared.verdict.Verdict.{Verdict}
 use Rattle.lemma_record.specs.LemmaBook.{IsProof}
 use Rattle.lemma_record.specs.Right.{IsRightText}
-use Rattle.lemma_record.specs.Right.{proved_of}
 
-pub replies_started : (start json : Bool) (reply : ReplyOf) (text more : List ℕ) → start ≡ true → SpellsOne text (λ p. GivesStarts p more (IsStartedReply p json reply)) → ReplyTo start json reply text more
+pub replies_started : (start json : Bool) (reply : ReplyOf) (text more : List ℕ) → start ≡ true
+    → SpellsOne text (λ p. GivesStarts p more (IsStartedReply p json reply)) → ReplyTo start json reply text more
 replies_started true json reply text more on h = h
 replies_started false json reply text more on h = cc
 
-pub replies_alone : (start json : Bool) (reply : ReplyOf) (text more : List ℕ) → start ≡ false → SpellsOne text (λ p. IsShownReply p json reply) → ReplyTo start json reply text more
+pub replies_alone : (start json : Bool) (reply : ReplyOf) (text more : List ℕ) → start ≡ false
+    → SpellsOne text (λ p. IsShownReply p json reply) → ReplyTo start json reply text more
 replies_alone false json reply text more off h = h
 replies_alone true json reply text more off h = cc
 
@@ -57,21 +56,10 @@ reads_alone start first second alone within never untouched told second_never ot
   project_first = λ _ _. untouched;
 }
 
--- what is proved names its claim
-claim_is : (a b : Claim) → proved_of a ≡ proved_of b → a ≡ b
-claim_is (claims.Optimal m) (claims.Optimal n) same = cc same
-claim_is (claims.Optimal m) (claims.Bound n) same = absurd (cc same)
-claim_is (claims.Optimal m) claims.NoSchedule same = absurd (cc same)
-claim_is (claims.Bound m) (claims.Optimal n) same = absurd (cc same)
-claim_is (claims.Bound m) (claims.Bound n) same = cc same
-claim_is (claims.Bound m) claims.NoSchedule same = absurd (cc same)
-claim_is claims.NoSchedule (claims.Optimal n) same = absurd (cc same)
-claim_is claims.NoSchedule (claims.Bound n) same = absurd (cc same)
-claim_is claims.NoSchedule claims.NoSchedule same = refl
-
 -- a log that proves what an outcome claims shows it
-pub shown_by : (p : Problem) (outcome : Outcome) (log : List ℕ) (what : Proved) → what ≡ proved_of (claim_of outcome) → IsTrueOf p outcome → IsProof p log what → IsShown p outcome log
+pub shown_by : (p : Problem) (outcome : Outcome) (log : List ℕ) (what : Verdict) → what ≡ verdict_of outcome
+    → IsTrueOf p outcome → IsProof p log what → IsShown p outcome log
 shown_by p outcome log what says true_of proof = record {
-  right = subst (IsRightText p log) (claim_is proof.claim (claim_of outcome) (sym proof.says ∙ says)) proof.right;
+  right = subst (IsRightText p log) says proof.right;
   true_of = true_of;
 }

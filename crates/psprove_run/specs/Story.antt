@@ -1,16 +1,14 @@
 -- The story of a run: what it replies to the texts that its inputs tell.
 use Rattle.std.specs.Prelude.{Some, true, ◌≡◌, ◌≢◌, IfNone, IfSome, ℕ, List, ◌++◌, Bool, false, codes, drop, ◌⊎◌, ℤ, Option, None, MatchOption, option_map}
 use Rattle.psprove_run.specs.declared.asked.SolveOptions.{SolveOptions}
-use Rattle.std.specs.Fmt.{decimal}
 use Rattle.plain_search.specs.declared.search.Outcome.{Outcome}
 use Rattle.answers.specs.Outcomes.{SaysOutcome}
-use Rattle.psprove_run.specs.declared.figures.Figures.{Figures}
+use Rattle.answers.specs.declared.json_text.Figures.{Figures}
+use Rattle.answers.specs.Figured.{SaysFigures}
 use Rattle.network.specs.Problem.{Problem}
 use Rattle.network.specs.Schedule.{makespan, IsFeasible}
 use Rattle.plain_search.specs.declared.search.Outcome.TheVariants.{Optimal, NoSchedule, Stopped}
-use Rattle.plain_search.specs.Verdicts.{IsTrueOf}
-use Rattle.lemma_log.specs.declared.event.Claim.{Claim}
-use Rattle.lemma_log.specs.declared.event.Claim.TheVariants as claims
+use Rattle.plain_search.specs.Verdicts.{IsTrueOf, verdict_of}
 use Rattle.lemma_record.specs.Right.{IsRightText}
 use Rattle.answers.specs.Answers.{IsViolationsText}
 use Rattle.runs.specs.Outcome.{GivesStarts, IfTextsKnown, IsSearchRefusal, IsSearched, SpellsOne, search_inputs}
@@ -23,42 +21,16 @@ use Rattle.psprove_run.specs.Recording.{TookSome, bytes_of}
 
 -- ---- What a run of `solve` reads and writes.
 
--- ---- The figures of a search in a line of JSON, and what is said of an outcome.
-
--- the members of the figures, before those of an answer of psmax
-abbrev pub figures_text : Figures → List ℕ
-figures_text f =
-    codes "{\"conflicts\":" ++ (decimal f.conflicts
-    ++ (codes ",\"decisions\":" ++ (decimal f.decisions
-    ++ (codes ",\"record_bytes\":" ++ (decimal f.record_bytes
-    ++ (codes ",\"seconds\":" ++ (decimal f.seconds ++ codes ",\"version\":\"0.9.0\",")))))))
-
--- the line of JSON: the figures, and then the members of psmax's line, which begins with a bracket
-abbrev pub with_figures : Figures → List ℕ → List ℕ
-with_figures f line = figures_text f ++ drop 1 line
-
--- psmax's line for the outcome, with the figures
-pub record SaysFigures (f : Figures) (outcome : Outcome) (exit : ℕ) (written : List ℕ) : Type 0 where
-  pub line : List ℕ
-  pub said : SaysOutcome outcome true exit line
-  pub text : written ≡ with_figures f line
-
--- what is said of an outcome: psmax's answer, and with JSON the figures before it
+-- what is said of an outcome: psmax's answer, or a line of JSON with the figures of the search
 abbrev pub Says : Bool → Figures → Outcome → ℕ → List ℕ → Type 0
 Says false f outcome exit written = SaysOutcome outcome false exit written
 Says true f outcome exit written = SaysFigures f outcome exit written
 
 -- ---- An outcome that a log of lemmas shows.
 
--- the claim of a log that shows the outcome
-abbrev pub claim_of : Outcome → Claim
-claim_of (Optimal best) = claims.Optimal (makespan best.starts)
-claim_of NoSchedule = claims.NoSchedule
-claim_of (Stopped best bound) = claims.Bound bound
-
--- the text is that of a log which is right for the project and claims the outcome, which is true
+-- the text is that of a log which is right for the project and claims the outcome's verdict, which is true
 pub record IsShown (p : Problem) (outcome : Outcome) (text : List ℕ) : Type 0 where
-  pub right : IsRightText p text (claim_of outcome)
+  pub right : IsRightText p text (verdict_of outcome)
   pub true_of : IsTrueOf p outcome
 
 -- the text says an outcome, which the log at hand shows

@@ -1,7 +1,7 @@
 //! Searches side by side, and what they found together.
 
 ghost use Rattle.std.specs.Prelude.{◌++◌, IfOk};
-ghost use Rattle.lemma_record.specs.LemmaBook.{IsProof};
+ghost use Rattle.lemma_record.specs.LemmaBook.{IsShownOf};
 
 use crate::asked::SolveOptions;
 use crate::board::Board;
@@ -13,8 +13,7 @@ use crate::recorder::{Before, Recorder};
 use crate::resuming::ResumeFault;
 use crate::searching::{JobContext, search_beside};
 use lemma_record::{Blank, LemmaBook, Naming, Shown};
-use network::Project;
-use record_text::Proved;
+use network::{Project, Verdict};
 use runs::Output;
 use std::alloc::{AllocError, Global};
 use std::sync::{Mutex, Wait};
@@ -98,8 +97,8 @@ fn tell_stop<R: Eprint>(rt: &R, state: State) {
 }
 
 /// Whether a search that has ended should have proved more.
-fn falls_short(asked: SolveOptions, proved: Proved) -> bool {
-    let Proved::Bound { bound } = proved else {
+fn falls_short(asked: SolveOptions, proved: Verdict) -> bool {
+    let Verdict::Bound { bound } = proved else {
         return false;
     };
     let below = asked
@@ -114,7 +113,7 @@ fn shown<H: Host, D: Output, J: Naming + Before>(
     project: &Project,
     recorder: &mut Recorder<'_, H, D, J>,
 ) -> Result<Shown, SearchFault>
-    ensures { IfOk result (λ shown. IsProof project.now (recorder.new.taken ++ shown.end.items) shown.proved) }
+    ensures { IfOk result (IsShownOf project.now recorder.new.taken) }
 {
     if !book.ledger().project().is_same(project) {
         return Err(SearchFault::Refused);
@@ -157,8 +156,7 @@ pub(crate) fn searched<
     log: Blank<J>,
     recorder: &mut Recorder<'_, H, D, J>,
 ) -> Result<SearchResult, SearchFault>
-    ensures { IfOk result (λ found.
-        IsProof project.now (recorder.new.taken ++ found.shown.end.items) found.shown.proved) }
+    ensures { IfOk result (λ found. IsShownOf project.now recorder.new.taken found.shown) }
 {
     let watch = Stopwatch::start(rt);
     let mut board = Board::new(alloc, project, asked.jobs, start, log)?;

@@ -19,8 +19,8 @@ fn name_of(cube: &SearchedCube) -> &str {
 }
 
 /// Tells what is wrong with the files of a cube.
-fn tell<R: Eprint>(rt: &R, cube: &SearchedCube, why: &str) {
-    let _ = eprintln!(rt; "psprove: cube {}: {why}", name_of(cube));
+fn tell<R: Eprint>(rt: &R, cube: &SearchedCube, fault: &str) {
+    let _ = eprintln!(rt; "psprove: cube {}: {fault}", name_of(cube));
 }
 
 /// The lemmas that the search of a cube was given. None if their file can't be read.

@@ -3,21 +3,16 @@
 ghost use Rattle.std.specs.Prelude.{◌≡◌, Some, IsTrue, IfOk, IfErr, IfSome, OnOk};
 ghost use Rattle.std.specs.Arc.{arc_value};
 ghost use Rattle.network.specs.Problem.{AreStarts};
-ghost use Rattle.network.specs.Schedule.{IsFeasible};
+ghost use Rattle.network.specs.Schedule.{IsFeasible, IsTrueVerdict};
 ghost use Rattle.branching.specs.Fair.{IsScheduleFor};
 ghost use Rattle.network.specs.Schedule.{makespan as makespan_of};
 ghost use Rattle.answers.specs.Faults.{exit_of, IsNoDeviceFault};
-ghost use Rattle.record_text.specs.FirstWrong.{IsFactOf};
-ghost use Rattle.plain_search.specs.Verdicts.{IsTrueOf};
-ghost use Rattle.lemma_record.specs.Right.{proved_of};
-ghost use Rattle.psprove_run.specs.Story.{claim_of};
+ghost use Rattle.plain_search.specs.Verdicts.{IsTrueOf, verdict_of};
 
 use answers::Fault;
 use lemma_record::Shown;
-use network::{MAX_START, Project, Schedule};
+use network::{MAX_START, Project, Schedule, Verdict};
 use plain_search::Outcome;
-use record_text::Proved;
-use schedule_check::{AcceptFault, accept};
 use std::alloc::Global;
 use std::sync::Arc;
 
@@ -31,10 +26,10 @@ fn are_starts(project: &Project, starts: &[i64]) -> bool
             .all(|start| -MAX_START <= *start && *start <= MAX_START)
 }
 
-/// The schedule of these starts, where they are a feasible one.
+/// The schedule of feasible starts.
 fn schedule_of(alloc: Global, project: &Arc<Project>, starts: &[i64]) -> Result<Schedule, Fault>
-    ensures schedule { IfOk result (λ s. s ≡ record { project = arc_value project.now; starts = starts.now }) }
-    ensures feasible { OnOk result (IsFeasible (arc_value project.now) starts.now) }
+    requires { IsFeasible (arc_value project.now) starts.now }
+    ensures schedule { IfOk result (IsScheduleFor (arc_value project.now)) }
     ensures status { IfErr result (λ fault. exit_of fault ≡ 1) }
     ensures fault { IfErr result IsNoDeviceFault }
 {
@@ -42,19 +37,16 @@ fn schedule_of(alloc: Global, project: &Arc<Project>, starts: &[i64]) -> Result<
         return Err(Fault::Refused);
     }
     let starts = Vec::from_slice(alloc, starts)?;
-    match accept(alloc, Arc::try_clone(project)?, starts) {
-        Ok(schedule) => Ok(schedule),
-        Err(AcceptFault::Violated(_)) => Err(Fault::Refused),
-        Err(AcceptFault::Memory) => Err(Fault::Memory),
-    }
+    Ok(Schedule::of(Arc::try_clone(project)?, starts))
 }
 
-/// The best schedule of a stopped search, if it has one.
+/// The best schedule, if there is one.
 fn best_of(
     alloc: Global,
     project: &Arc<Project>,
     best: Option<&[i64]>,
 ) -> Result<Option<Schedule>, Fault>
+    requires { IfSome best (λ starts. IsFeasible (arc_value project.now) starts.now) }
     ensures found { IfOk result (λ best. IfSome best (IsScheduleFor (arc_value project.now))) }
     ensures status { IfErr result (λ fault. exit_of fault ≡ 1) }
     ensures fault { IfErr result IsNoDeviceFault }
@@ -83,16 +75,17 @@ pub(crate) fn outcome_of(
     project: &Arc<Project>,
     shown: &Shown,
 ) -> Result<Outcome, Fault>
-    requires { IsFactOf (arc_value project.now) shown.now.proved }
-    ensures claims { IfOk result (λ outcome. shown.now.proved ≡ proved_of (claim_of outcome)) }
+    requires verdict { IsTrueVerdict (arc_value project.now) shown.now.proved }
+    requires feasible { IfSome shown.now.best (λ starts. IsFeasible (arc_value project.now) starts.items) }
+    ensures claims { IfOk result (λ outcome. shown.now.proved ≡ verdict_of outcome) }
     ensures true_of { IfOk result (IsTrueOf (arc_value project.now)) }
     ensures status { IfErr result (λ fault. exit_of fault ≡ 1) }
     ensures fault { IfErr result IsNoDeviceFault }
 {
     let best = best_of(alloc, project, shown.best.as_deref())?;
     match shown.proved {
-        Proved::Optimal { makespan } => Ok(Outcome::Optimal(shortest_of(best, makespan)?)),
-        Proved::NoSchedule => Ok(Outcome::NoSchedule),
-        Proved::Bound { bound } => Ok(Outcome::Stopped { best, bound }),
+        Verdict::Optimal { makespan } => Ok(Outcome::Optimal(shortest_of(best, makespan)?)),
+        Verdict::NoSchedule => Ok(Outcome::NoSchedule),
+        Verdict::Bound { bound } => Ok(Outcome::Stopped { best, bound }),
     }
 }

@@ -8,7 +8,6 @@
 
 mod asked;
 mod board;
-mod figures;
 mod host;
 mod jobs;
 mod joined;

@@ -19,7 +19,6 @@ use std::marker::Brand;
 use std::sync::{Arc, Wait};
 use std::thread::Threads;
 use std::time::Clock;
-use words::MAX_TEXT_BYTES;
 
 /// The reply of a search to what its inputs hold, with the end of its record. The project is read and judged before the
 /// starts, and these before anything is searched.
@@ -56,7 +55,7 @@ fn solve_reply<
         let project = Arc::new(alloc, project)?;
         return solved(rt, alloc, asked, &project, None, log, recorder);
     }
-    let starts = read_text(alloc, MAX_TEXT_BYTES, second)?;
+    let starts = read_text(alloc, second)?;
     solved_from(rt, alloc, asked, project, &starts, log, recorder)
 }
 

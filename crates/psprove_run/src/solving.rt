@@ -6,20 +6,20 @@ ghost use Rattle.network.specs.Schedule.{IsFeasible};
 ghost use Rattle.answers.specs.declared.fault.Fault.TheVariants as faults;
 ghost use Rattle.answers.specs.Faults.{exit_of, IsNoDeviceFault, IsSearchFault};
 ghost use Rattle.runs.specs.Outcome.{GivesStarts, IsFirstStartsFault};
-ghost use Rattle.lemma_record.specs.LemmaBook.{IsProof};
-ghost use Rattle.psprove_run.specs.Story.{IsShownReply, IsStartedReply, continued};
+ghost use Rattle.lemma_record.specs.LemmaBook.{IsShownOf};
+ghost use Rattle.psprove_run.specs.Story.{IsShownReply, IsStartedReply, Says, continued};
 
 use crate::asked::SolveOptions;
-use crate::figures::{Figures, answer_of};
 use crate::host::Host;
 use crate::jobs::{SearchFault, SearchResult, searched};
 use crate::judging::outcome_of;
 use crate::recorder::{Before, Recorder};
-use answers::Fault;
+use answers::{Answer, Fault, Figures, figured_answer, solved_answer};
 use lemma_record::{Blank, Naming};
 use network::{Project, Schedule};
+use plain_search::Outcome;
 use runs::{Judged, Output, Reply, judged_starts};
-use std::alloc::Global;
+use std::alloc::{AllocError, Global};
 use std::sync::{Arc, Wait};
 use std::thread::Threads;
 use std::time::Clock;
@@ -36,6 +36,22 @@ fn search_fault(fault: SearchFault) -> Fault
     }
 }
 
+/// The answer that an outcome makes; a line of JSON has the figures of the search.
+fn answer_of(
+    alloc: Global,
+    outcome: &Outcome,
+    json: bool,
+    figures: &Figures,
+) -> Result<Answer, AllocError>
+    ensures { IfOk result (λ a. Says json figures.now outcome.now a.exit a.text.items) }
+{
+    if json {
+        figured_answer(alloc, outcome, figures)
+    } else {
+        solved_answer(alloc, outcome, json)
+    }
+}
+
 /// What the book of a search shows of the project: an answer, and the end of the record that was begun.
 fn shown_reply<H: Host, D: Output, J: Naming + Before>(
     alloc: Global,
@@ -44,7 +60,7 @@ fn shown_reply<H: Host, D: Output, J: Naming + Before>(
     found: SearchResult,
     recorder: &Recorder<'_, H, D, J>,
 ) -> Result<Reply, Fault>
-    requires { IsProof (arc_value project.now) (recorder.now.taken ++ found.shown.end.items) found.shown.proved }
+    requires { IsShownOf (arc_value project.now) recorder.now.taken found.shown }
     ensures shown { IfOk result (λ reply.
         IsShownReply (arc_value project.now) json (continued recorder.now.taken reply)) }
     ensures status { IfErr result (λ fault. exit_of fault ≡ 1) }

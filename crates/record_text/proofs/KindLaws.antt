@@ -1,12 +1,16 @@
 -- The text of a record, whatever its kind, has no fault, and is that of no other record; a text has one first fault.
-use Rattle.std.proofs.Common.{◌≡◌, ◌≢◌, ℕ, ◌≤◌, List, [], ◌∷◌, ◌++◌, map, length, refl, sym, ap, ◌∙◌, subst, arith, append_assoc, append-nil, length-append, ◌⊎◌, inl, inr, ◌+◌, Result, Ok, Err, IfOk, IfErr, MatchResult}
+use Rattle.std.proofs.Common.{◌≡◌, ◌≢◌, ℕ, ◌≤◌, List, [], ◌∷◌, ◌++◌, map, length, refl, sym, ap, ◌∙◌, subst, arith}
+use Rattle.std.proofs.Common.{append_assoc, append-nil, length-append, ◌⊎◌, inl, inr, ◌+◌, Result, Ok, Err, IfOk, IfErr}
+use Rattle.std.proofs.Common.{MatchResult}
 use Rattle.std.specs.List.{AllByRecursion}
 use Rattle.record_text.specs.declared.fault.RecordFault.{RecordFault}
 use Rattle.record_text.specs.declared.fault.RecordFaultKind.TheVariants as why
-use Rattle.record_text.specs.Kinds.{RecordOf, Kind, head_rows, rows_of, record_text, IsRecord, Spells, AreRows, MAX_RECORD_BYTES, Rules, IsDueAfter, HasNone, Facts}
+use Rattle.record_text.specs.Kinds.{RecordOf, Kind, head_rows, rows_of, record_text, IsRecord, Spells, AreRows}
+use Rattle.record_text.specs.Kinds.{MAX_RECORD_BYTES, Rules, IsDueAfter, HasNone, Facts}
 use Rattle.record_text.specs.Rows as rows
 use Rattle.record_text.specs.Rows.{line_pieces, RowFault, Begin, HasRowFault, IsNeverLonger, missing}
-use Rattle.record_text.specs.TextFaults.{HasFault, IsFirstTextFault, IsMissing, IsOther, IsTitleFault, RecordIsOne, FirstFaultIsOne, FaultIsNoRecord, why_of, form}
+use Rattle.record_text.specs.TextFaults.{HasFault, IsFirstTextFault, IsMissing, IsOther, IsTitleFault, RecordIsOne}
+use Rattle.record_text.specs.TextFaults.{FirstFaultIsOne, FaultIsNoRecord, why_of, form}
 use Rattle.record_text.proofs.FirstWrong.{fault_at, is_memory}
 use Rattle.record_text.proofs.IsDueAfter.{Grammar, none_more}
 use Rattle.record_text.proofs.Rows.{text_from, pieces_of, Stands, missing_at, form_at, same_rows, whole_no_fault, one_fault}
@@ -25,40 +29,57 @@ plain_append (x ∷ xs) ys hx hy = (hx.0, plain_append xs ys hx.1 hy)
 
 module _ {Claim Line : Type 0} (k : Kind Claim Line) where
   -- what is written is its record's text
-  pub spells_written : (text : List ℕ) (r : RecordOf Claim Line) → IsRecord k r → text ≡ record_text k r → length (record_text k r) ≤ MAX_RECORD_BYTES → Spells k text r
+  pub spells_written : (text : List ℕ) (r : RecordOf Claim Line) → IsRecord k r → text ≡ record_text k r
+      → length (record_text k r) ≤ MAX_RECORD_BYTES → Spells k text r
   spells_written text r is same size = record { of_record = is; size = rw same size; spelled = same }
 
-  pub text_found : (text rest rest2 : List ℕ) (claim : Claim) (lines : List Line) → length text ≤ MAX_RECORD_BYTES → line_pieces text ≡ k.title ∷ line_pieces rest → line_pieces rest ≡ k.claim_rows claim ++ line_pieces rest2 → line_pieces rest2 ≡ map k.row_of lines ++ [] ∷ [] → IsRecord k (record { claim = claim; lines = lines }) →
+  pub text_found : (text rest rest2 : List ℕ) (claim : Claim) (lines : List Line) → length text ≤ MAX_RECORD_BYTES
+      → line_pieces text ≡ k.title ∷ line_pieces rest → line_pieces rest ≡ k.claim_rows claim ++ line_pieces rest2
+      → line_pieces rest2 ≡ map k.row_of lines ++ [] ∷ [] → IsRecord k (record { claim = claim; lines = lines }) →
       Spells k text (record { claim = claim; lines = lines })
   text_found text rest rest2 claim lines size first second third of_record = record {
     of_record = of_record;
     size = size;
     spelled = text_from text (head_rows k claim ++ map k.row_of lines)
-        (first ∙ ap (λ (ps : List (List ℕ)). k.title ∷ ps) (second ∙ ap (λ (ps : List (List ℕ)). k.claim_rows claim ++ ps) third) ∙ sym (append_assoc (head_rows k claim) (map k.row_of lines) ([] ∷ [])));
+        (first ∙ ap (λ (ps : List (List ℕ)). k.title ∷ ps)
+        (second ∙ ap (λ (ps : List (List ℕ)). k.claim_rows claim ++ ps) third)
+        ∙ sym (append_assoc (head_rows k claim) (map k.row_of lines) ([] ∷ [])));
   }
 
-  pub named : (all : List (List ℕ)) (line : ℕ) (what : RowFault) (fault : RecordFault) → fault ≡ record { line = line; why = why_of what } → HasRowFault (AreRows k) all line what → HasFault k all fault
-  named all line what fault is f = rw is (record { what = what; why = refl; row = f })
+  pub named : (all : List (List ℕ)) (line : ℕ) (what : RowFault) (fault : RecordFault)
+      → fault ≡ record { line = line; kind = why_of what } → HasRowFault (AreRows k) all line what → HasFault k all fault
+  named all line what fault is f = rw is (record { what = what; kind = refl; row = f })
 
-  pub missing_fault : (front : List (List ℕ)) (text : List ℕ) (fault : RecordFault) → Stands (AreRows k) front → line_pieces text ≡ text ∷ [] → fault ≡ record { line = length front + 1; why = why_of (missing text) } → HasFault k (front ++ line_pieces text) fault
+  pub missing_fault : (front : List (List ℕ)) (text : List ℕ) (fault : RecordFault) → Stands (AreRows k) front
+      → line_pieces text ≡ text ∷ [] → fault ≡ record { line = length front + 1; kind = why_of (missing text) }
+      → HasFault k (front ++ line_pieces text) fault
   missing_fault front text fault s h is = named _ _ (missing text) fault is (missing_at (AreRows k) front text s h)
 
-  pub form_fault : (front : List (List ℕ)) (text row rest : List ℕ) (fault : RecordFault) → Stands (AreRows k) front → ¬ Begin (AreRows k) (front ++ row ∷ []) → line_pieces text ≡ row ∷ line_pieces rest → fault ≡ form (length front + 1) → HasFault k (front ++ line_pieces text) fault
+  pub form_fault : (front : List (List ℕ)) (text row rest : List ℕ) (fault : RecordFault) → Stands (AreRows k) front
+      → ¬ Begin (AreRows k) (front ++ row ∷ []) → line_pieces text ≡ row ∷ line_pieces rest
+      → fault ≡ form (length front + 1) → HasFault k (front ++ line_pieces text) fault
   form_fault front text row rest fault s never h is = named _ _ rows.form fault is (form_at (AreRows k) front text row rest s never h)
 
   -- rows after the first that are those of no claim
-  pub no_claim : (rows : List (List ℕ)) → ((claim : Claim) (x rest : List (List ℕ)) → k.IsClaim claim → k.claim_rows claim ++ x ≡ rows ++ rest → ⊥) → ¬ Begin (AreRows k) (k.title ∷ rows)
+  pub no_claim : (rows : List (List ℕ)) →
+      ((claim : Claim) (x rest : List (List ℕ)) → k.IsClaim claim → k.claim_rows claim ++ x ≡ rows ++ rest → ⊥)
+      → ¬ Begin (AreRows k) (k.title ∷ rows)
   no_claim rows none (rest, (r, is, h)) = none r.claim (map k.row_of r.lines) rest is.claim (tail h)
 
   -- what is spelled is read, unless memory ran out
-  pub only_read : RecordIsOne k → FaultIsNoRecord k → (text : List ℕ) (r : RecordOf Claim Line) (result : Result (RecordOf Claim Line) RecordFault) → IfOk result (λ q. Spells k text q) → IfErr result (λ fault. fault.why ≢ why.Memory → IsFirstTextFault k text fault) → Spells k text r → MatchResult result (λ q. q ≡ r) (λ fault. fault.why ≡ why.Memory)
+  pub only_read : RecordIsOne k → FaultIsNoRecord k
+      → (text : List ℕ) (r : RecordOf Claim Line) (result : Result (RecordOf Claim Line) RecordFault)
+      → IfOk result (λ q. Spells k text q) → IfErr result
+      (λ fault. fault.kind ≢ why.Memory → IsFirstTextFault k text fault) → Spells k text r
+      → MatchResult result (λ q. q ≡ r) (λ fault. fault.kind ≡ why.Memory)
   only_read one apart text r (Ok q) found fault s = one text q r found s
-  only_read one apart text r (Err e) found fault s = is_memory e.why (λ other. apart text r e s (fault other))
+  only_read one apart text r (Err e) found fault s = is_memory e.kind (λ other. apart text r e s (fault other))
 
 -- ---- the rows of a kind of which this is proved
 
 module _ {Claim Line : Type 0} {k : Kind Claim Line} {m : Rules k.row_of} (f : Facts k m) where
-  pub record_from : (claim : Claim) (lines : List Line) (due : ℕ) → k.IsClaim claim → IsDueAfter m 1 lines due → due ≡ 0 → IsRecord k (record { claim = claim; lines = lines })
+  pub record_from : (claim : Claim) (lines : List Line) (due : ℕ) → k.IsClaim claim → IsDueAfter m 1 lines due → due ≡ 0
+      → IsRecord k (record { claim = claim; lines = lines })
   record_from claim lines due wc leads none = let w = f.whole lines (subst (IsDueAfter m 1 lines) none leads) in record { claim = wc; lines = w.0; whole = w.1 }
 
   leads_of : (r : RecordOf Claim Line) → IsRecord k r → IsDueAfter m 1 r.lines 0
@@ -75,7 +96,8 @@ module _ {Claim Line : Type 0} {k : Kind Claim Line} {m : Rules k.row_of} (f : F
   -- no record's rows go on from another's
   never_longer : (q r : RecordOf Claim Line) → IsRecord k q → IsRecord k r → (more : List (List ℕ)) → rows_of k r ≡ rows_of k q ++ more → (more ≡ []) × (r ≡ q)
   never_longer q r iq ir more h =
-      let i = f.one_claim r.claim q.claim (map k.row_of r.lines) (map k.row_of q.lines ++ more) ir.claim iq.claim (tail (h ∙ append_assoc (head_rows k q.claim) (map k.row_of q.lines) more)) in
+      let i = f.one_claim r.claim q.claim (map k.row_of r.lines) (map k.row_of q.lines ++ more) ir.claim iq.claim
+      (tail (h ∙ append_assoc (head_rows k q.claim) (map k.row_of q.lines) more)) in
       let n = none_more m q.lines r.lines more (leads_of q iq) (leads_of r ir) i.1 in
       (n.0, ap (λ (claim : Claim). the claim r.lines) i.0 ∙ ap (λ (lines : List Line). the q.claim lines) n.1)
     where
@@ -93,7 +115,8 @@ module _ {Claim Line : Type 0} {k : Kind Claim Line} {m : Rules k.row_of} (f : F
 
   record_pieces : (text : List ℕ) (r : RecordOf Claim Line) → Spells k text r → line_pieces text ≡ rows_of k r ++ [] ∷ []
   record_pieces text r s =
-      let plain = plain_append (k.claim_rows r.claim) (map k.row_of r.lines) (f.claim_plain r.claim s.of_record.claim) (plain_lines r.lines s.of_record.lines) in
+      let plain = plain_append (k.claim_rows r.claim) (map k.row_of r.lines) (f.claim_plain r.claim s.of_record.claim)
+      (plain_lines r.lines s.of_record.lines) in
       ap line_pieces s.spelled ∙ pieces_of (rows_of k r) (f.title_plain, plain)
 
   -- ---- the laws
@@ -106,7 +129,8 @@ module _ {Claim Line : Type 0} {k : Kind Claim Line} {m : Rules k.row_of} (f : F
   pub spells_no_fault : FaultIsNoRecord k
   spells_no_fault text r fault s (inl (long, is)) = omega (arith, long, s.size)
   spells_no_fault text r fault s (inr (size, h)) =
-      whole_no_fault (AreRows k) rows_never_longer (rows_of k r) fault.line h.what (r, s.of_record, refl) (subst (λ (ps : List (List ℕ)). HasRowFault (AreRows k) ps fault.line h.what) (record_pieces text r s) h.row)
+      whole_no_fault (AreRows k) rows_never_longer (rows_of k r) fault.line h.what (r, s.of_record, refl)
+      (subst (λ (ps : List (List ℕ)). HasRowFault (AreRows k) ps fault.line h.what) (record_pieces text r s) h.row)
 
   pub first_fault_is_one : FirstFaultIsOne k
   first_fault_is_one text a b (inl long) (inl too) = long.1 ∙ sym too.1
@@ -114,24 +138,40 @@ module _ {Claim Line : Type 0} {k : Kind Claim Line} {m : Rules k.row_of} (f : F
   first_fault_is_one text a b (inr short) (inl long) = absurd (omega (arith, long.0, short.0))
   first_fault_is_one text a b (inr g) (inr h) =
       let same = one_fault (AreRows k) rows_never_longer (line_pieces text) a.line b.line g.1.what h.1.what g.1.row h.1.row in
-      let whys : a.why ≡ b.why = g.1.why ∙ ap why_of same.1 ∙ sym h.1.why in
-      ap (λ (line : ℕ). fault_at line a.why) same.0 ∙ ap (fault_at b.line) whys
+      let whys : a.kind ≡ b.kind = g.1.kind ∙ ap why_of same.1 ∙ sym h.1.kind in
+      ap (λ (line : ℕ). fault_at line a.kind) same.0 ∙ ap (fault_at b.line) whys
 
   -- ---- the rows before the lines
 
   few_open : (front : List (List ℕ)) → length front ≤ 2 → ¬ AreRows k front
   few_open front few (r, is, h) = by_lines r.lines (leads_of r is) (ap length h ∙ refl) (length-append (head_rows k r.claim) (map k.row_of r.lines))
     where
-      by_lines : (lines : List Line) → IsDueAfter m 1 lines 0 → length (head_rows k r.claim ++ map k.row_of lines) ≡ length front → length (head_rows k r.claim ++ map k.row_of lines) ≡ length (head_rows k r.claim) + length (map k.row_of lines) → ⊥
+      by_lines : (lines : List Line) → IsDueAfter m 1 lines 0
+          → length (head_rows k r.claim ++ map k.row_of lines) ≡ length front
+          → length (head_rows k r.claim ++ map k.row_of lines) ≡ length (head_rows k r.claim) + length
+          (map k.row_of lines) → ⊥
       by_lines [] leads same e = omega (arith, leads)
       by_lines (l ∷ ls) leads same e = omega (arith, few, same, e, f.some_rows r.claim)
 
   -- two rows or fewer that a claim's text begins with
-  pub stands_in : (claim : Claim) (front more : List (List ℕ)) → k.IsClaim claim → head_rows k claim ≡ front ++ more → length front ≤ 2 → Stands (AreRows k) front
+  pub stands_in : (claim : Claim) (front more : List (List ℕ)) → k.IsClaim claim → head_rows k claim ≡ front ++ more
+      → length front ≤ 2 → Stands (AreRows k) front
   stands_in claim front more w h few =
       let leads : IsDueAfter m 1 (m.last ∷ []) 0 = (omega arith, f.rules.reads_last 1 (omega arith), omega (arith, f.rules.next_last 1 (omega arith))) in
-      let same : rows_of k (record { claim = claim; lines = m.last ∷ [] }) ≡ front ++ (more ++ k.row_of m.last ∷ []) = ap (λ (rows : List (List ℕ)). rows ++ k.row_of m.last ∷ []) h ∙ append_assoc front more (k.row_of m.last ∷ []) in
-      record { begins = (_, (record { claim = claim; lines = m.last ∷ [] }, record_from claim (m.last ∷ []) 0 w leads refl, same)); unfinished = few_open front few }
+      let same : rows_of k (record { claim = claim; lines = m.last ∷ [] }) ≡ front ++ (more ++ k.row_of m.last ∷ []) =
+      ap (λ (rows : List (List ℕ)). rows ++ k.row_of m.last ∷ []) h ∙ append_assoc front more (k.row_of m.last ∷ [])
+      in
+      record {
+        begins = (
+          _,
+          (
+            record { claim = claim; lines = m.last ∷ [] },
+            record_from claim (m.last ∷ []) 0 w leads refl,
+            same,
+          ),
+        );
+        unfinished = few_open front few;
+      }
 
   pub stands_second : Stands (AreRows k) (k.title ∷ [])
   stands_second = stands_in f.example (k.title ∷ []) (k.claim_rows f.example) f.example_is refl (omega arith)

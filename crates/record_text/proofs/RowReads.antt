@@ -1,5 +1,7 @@
 -- Reading rows: what is read is spelled so, and what is spelled is read.
-use Rattle.std.proofs.Common.{◌≡◌, ℕ, zero, suc, ◌<◌, ◌≤◌, ◌^◌, List, [], ◌∷◌, ◌++◌, map, length, get_or, Option, Some, None, Bool, true, false, cond, eqb, refl, sym, ap, ◌∙◌, subst, arith, rules, length-append, not, append-nil, ◌≢◌, ℤ, pos, negsuc, codes}
+use Rattle.std.proofs.Common.{◌≡◌, ℕ, zero, suc, ◌<◌, ◌≤◌, ◌^◌, List, [], ◌∷◌, ◌++◌, map, length, get_or, Option, Some}
+use Rattle.std.proofs.Common.{None, Bool, true, false, cond, eqb, refl, sym, ap, ◌∙◌, subst, arith, rules}
+use Rattle.std.proofs.Common.{length-append, not, append-nil, ◌≢◌, ℤ, pos, negsuc, codes}
 use Rattle.std.specs.List.{slice_index, list_all, join_with_byte, All, AllByRecursion}
 use Rattle.std.specs.Char.{is_ascii_digit}
 use Rattle.std.specs.Fmt.{decimal}
@@ -9,7 +11,9 @@ use Rattle.std.proofs.Math.Bool.{and-false}
 use Rattle.std.proofs.lemmas.Bool.{and_parts, ne_eqb, not-true}
 use Rattle.std.proofs.lemmas.List.Splits.{slice_split_at, slice_split_none, join_with_byte-slice_split}
 use Rattle.record_text.specs.Text.{IsNumber, spaced, IsWritableLine, row_of, IsWritableTime, IsWritableClaim, spaced_times, claim_rows}
-use Rattle.record_text.specs.Reading.{has_leading_zero, number, with_number, numbers, Parts, with_word, parts_of, fields, leaf, force_of, split_of, line_from, line_in, line_of, numbers_in, numbers_after, only_time, makespan_in, some_times, starts_in}
+use Rattle.record_text.specs.Reading.{has_leading_zero, number, with_number, numbers, Parts, with_word, parts_of}
+use Rattle.record_text.specs.Reading.{fields, leaf, force_of, split_of, line_from, line_in, line_of, numbers_in}
+use Rattle.record_text.specs.Reading.{numbers_after, only_time, makespan_in, some_times, starts_in}
 use Rattle.words.specs.Words.{is_numeral, natural}
 use Rattle.words.proofs.WordLaws.{AreDigits, numerals, digits_value-below, natural-Some}
 use Rattle.std.proofs.lemmas.Bool.Decides.{nat_tests}
@@ -42,7 +46,9 @@ unfolding number
 number_again n small =
     let wide : n < 2 ^ 64 = omega (arith, small) in
     rw (no_leading_zero n small)
-    (natural-Some MAX_NUMBER_DIGITS (decimal n) (are_digits n small) (decimal_nonempty n wide) (length-decimal-le MAX_NUMBER_DIGITS n (omega arith) small wide) ∙ ap Some (digits_value-decimal numerals n wide))
+    (natural-Some MAX_NUMBER_DIGITS (decimal n) (are_digits n small) (decimal_nonempty n wide)
+    (length-decimal-le MAX_NUMBER_DIGITS n (omega arith) small wide)
+    ∙ ap Some (digits_value-decimal numerals n wide))
 
 -- so many digits, and the number that they spell
 record Spelled (word : List ℕ) (n : ℕ) : Type 0 where
@@ -56,12 +62,14 @@ spelled word n false e h = absurd cc
 spelled word n true e h = record { digits = grind (arith, nat_tests); some = grind (arith, nat_tests); few = grind (arith, nat_tests); value = cc }
 
 pub natural_small : (word : List ℕ) (n : ℕ) → natural MAX_NUMBER_DIGITS word ≡ Some n → IsNumber n
-natural_small word n h = let s = spelled word n (is_numeral MAX_NUMBER_DIGITS word) refl h in rw (← s.value) (digits_value-below word MAX_NUMBER_DIGITS s.digits s.few)
+natural_small word n h = let s = spelled word n (is_numeral MAX_NUMBER_DIGITS word) refl h
+    in rw (← s.value) (digits_value-below word MAX_NUMBER_DIGITS s.digits s.few)
 
 alone : (word : List ℕ) → has_leading_zero word ≡ false → 0 < length word → get_or word 0 0 ≡ 48 → length word ≡ 1
 alone word e some first = grind (arith, nat_tests)
 
-number_taken : (word : List ℕ) (n : ℕ) (b : Bool) → has_leading_zero word ≡ b → cond b None (natural MAX_NUMBER_DIGITS word) ≡ Some n → (word ≡ decimal n) × IsNumber n
+number_taken : (word : List ℕ) (n : ℕ) (b : Bool) → has_leading_zero word ≡ b
+    → cond b None (natural MAX_NUMBER_DIGITS word) ≡ Some n → (word ≡ decimal n) × IsNumber n
 number_taken word n true e h = absurd cc
 number_taken word n false e h =
     let s = spelled word n (is_numeral MAX_NUMBER_DIGITS word) refl h in
@@ -85,7 +93,8 @@ record Taken (word : List ℕ) (rest : List (List ℕ)) (ns : List ℕ) : Type 0
   one : number word ≡ Some first
   more : numbers rest ≡ Some others
 
-taken : (word : List ℕ) (rest : List (List ℕ)) (ns : List ℕ) (a : Option ℕ) (b : Option (List ℕ)) → number word ≡ a → numbers rest ≡ b → with_number a b ≡ Some ns → Taken word rest ns
+taken : (word : List ℕ) (rest : List (List ℕ)) (ns : List ℕ) (a : Option ℕ) (b : Option (List ℕ)) → number word ≡ a
+    → numbers rest ≡ b → with_number a b ≡ Some ns → Taken word rest ns
 taken word rest ns (Some n) (Some others) e f h = record { first = n; others = others; is = cc; one = e; more = f }
 taken word rest ns a b e f h = absurd cc
 
@@ -113,10 +122,12 @@ not_space b h = ne_eqb b 32 (λ same. let g : is_ascii_digit 32 ≡ true = subst
 pub no_space : (n : ℕ) → IsNumber n → All (λ b. is_space b ≡ false) (decimal n)
 no_space n small k d lt = not_space (get_or (decimal n) k d) (digit_at (decimal n) k d lt (are_digits n small))
 
-pub words_spaced : (word : List ℕ) (ns : List ℕ) → All (λ b. is_space b ≡ false) word → AllByRecursion IsNumber ns → fields (word ++ spaced ns) ≡ word ∷ map decimal ns
+pub words_spaced : (word : List ℕ) (ns : List ℕ) → All (λ b. is_space b ≡ false) word → AllByRecursion IsNumber ns
+    → fields (word ++ spaced ns) ≡ word ∷ map decimal ns
 words_spaced word [] none all = let e : word ++ [] ≡ word = search rules in rw e (slice_split_none is_space word none)
 words_spaced word (n ∷ ns) none all =
-    slice_split_at is_space word 32 (decimal n ++ spaced ns) none refl ∙ ap (λ (ws : List (List ℕ)). word ∷ ws) (words_spaced (decimal n) ns (no_space n all.0) all.1)
+    slice_split_at is_space word 32 (decimal n ++ spaced ns) none refl
+    ∙ ap (λ (ws : List (List ℕ)). word ∷ ws) (words_spaced (decimal n) ns (no_space n all.0) all.1)
 
 joined : (word : List ℕ) (ns : List ℕ) → join_with_byte 32 (word ∷ map decimal ns) ≡ word ++ spaced ns
 joined word [] = search rules
@@ -127,7 +138,8 @@ row_joined row word ns h = sym (join_with_byte-slice_split 32 row) ∙ ap (join_
 
 -- ---- a row's parts
 
-pub parts_again : (word : List ℕ) (ns : List ℕ) → All (λ b. is_space b ≡ false) word → AllByRecursion IsNumber ns → parts_of (fields (word ++ spaced ns)) ≡ Some (record { word = word; numbers = ns })
+pub parts_again : (word : List ℕ) (ns : List ℕ) → All (λ b. is_space b ≡ false) word → AllByRecursion IsNumber ns
+    → parts_of (fields (word ++ spaced ns)) ≡ Some (record { word = word; numbers = ns })
 parts_again word ns none all = rw (words_spaced word ns none all, numbers_again ns all) refl
 
 pub parts_from : (ws : List (List ℕ)) (p : Parts) → parts_of ws ≡ Some p → (ws ≡ p.word ∷ map decimal p.numbers) × AllByRecursion IsNumber p.numbers
@@ -166,12 +178,16 @@ plain_word (b ∷ bs) h = let p = and_parts (not (is_space b)) _ h in All-cons (
 -- ---- what is spelled is read
 
 pub line_again : (line : Line) → IsWritableLine line → HasMembers line → line_of (row_of line) ≡ Some line
-line_again (kind.Force pair) small some = ap line_in (parts_again (codes "force") (pair.before ∷ pair.after ∷ []) (plain_word (codes "force") refl) (small.0, (small.1, tt)))
+line_again (kind.Force pair) small some =
+    ap line_in (parts_again (codes "force") (pair.before ∷ pair.after ∷ []) (plain_word (codes "force") refl)
+    (small.0, (small.1, tt)))
 line_again kind.Solved small some = ap line_in (parts_again (codes "solved") [] (plain_word (codes "solved") refl) tt)
 line_again kind.Cut small some = ap line_in (parts_again (codes "cut") [] (plain_word (codes "cut") refl) tt)
 line_again kind.Dead small some = ap line_in (parts_again (codes "dead") [] (plain_word (codes "dead") refl) tt)
 line_again (kind.Split resource []) small some = absurd (omega arith)
-line_again (kind.Split resource (i ∷ members)) small some = ap line_in (parts_again (codes "split") (resource ∷ i ∷ members) (plain_word (codes "split") refl) (small.0, small.1))
+line_again (kind.Split resource (i ∷ members)) small some =
+    ap line_in (parts_again (codes "split") (resource ∷ i ∷ members) (plain_word (codes "split") refl)
+    (small.0, small.1))
 
 -- ---- what is read is spelled so
 
@@ -182,7 +198,8 @@ record Said (word : List ℕ) (ns : List ℕ) (line : Line) : Type 0 where
   some : HasMembers line
 
 force_said : (ns : List ℕ) (line : Line) → AllByRecursion IsNumber ns → force_of ns ≡ Some line → Said (codes "force") ns line
-force_said (i ∷ j ∷ []) line all h = let is : line ≡ kind.Force (record { before = i; after = j }) = cc in rw is (record { row = refl; small = (all.0, all.1.0); some = tt })
+force_said (i ∷ j ∷ []) line all h = let is : line ≡ kind.Force (record { before = i; after = j }) = cc
+    in rw is (record { row = refl; small = (all.0, all.1.0); some = tt })
 force_said ns line all h = absurd cc
 
 split_said : (ns : List ℕ) (line : Line) → AllByRecursion IsNumber ns → split_of ns ≡ Some line → Said (codes "split") ns line
@@ -194,7 +211,8 @@ leaf_said own line [] small some h = let is : line ≡ own = cc in rw is (record
 leaf_said own line (n ∷ ns) small some h = absurd cc
 
 -- a word that is the text, or another
-pub said_or : {A : Type 0} (P : List ℕ → Type 0) (word text : List ℕ) (a b : Option A) (x : A) → (a ≡ Some x → P text) → (b ≡ Some x → P word) → cond (bytes_eq word text) a b ≡ Some x → P word
+pub said_or : {A : Type 0} (P : List ℕ → Type 0) (word text : List ℕ) (a b : Option A) (x : A) → (a ≡ Some x → P text)
+    → (b ≡ Some x → P word) → cond (bytes_eq word text) a b ≡ Some x → P word
 said_or {A} P word text a b x one other h = by_test (bytes_eq word text) refl h
   where
     by_test : (t : Bool) → bytes_eq word text ≡ t → cond t a b ≡ Some x → P word
@@ -236,7 +254,8 @@ pub record Numbers (times : List ℤ) : Type 0 where
 
 pub numbers_of : (times : List ℤ) → AllByRecursion IsWritableTime times → Numbers times
 numbers_of [] all = record { numbers = []; is = refl; small = tt }
-numbers_of (pos n ∷ times) all = let more = numbers_of times all.1 in record { numbers = n ∷ more.numbers; is = ap (λ (ts : List ℤ). pos n ∷ ts) more.is; small = (all.0, more.small) }
+numbers_of (pos n ∷ times) all = let more = numbers_of times all.1
+    in record { numbers = n ∷ more.numbers; is = ap (λ (ts : List ℤ). pos n ∷ ts) more.is; small = (all.0, more.small) }
 numbers_of (negsuc n ∷ times) all = absurd all.0
 
 pub spaced_as_times : (ns : List ℕ) → spaced_times (map pos ns) ≡ spaced ns
@@ -249,18 +268,23 @@ writable_times (n ∷ ns) all = (all.0, writable_times ns all.1)
 
 -- ---- numbers after a word
 
-pub after_again : (word : List ℕ) (ns : List ℕ) → list_all (λ b. not (is_space b)) word ≡ true → bytes_eq word word ≡ true → AllByRecursion IsNumber ns → numbers_after word (word ++ spaced ns) ≡ Some ns
+pub after_again : (word : List ℕ) (ns : List ℕ) → list_all (λ b. not (is_space b)) word ≡ true
+    → bytes_eq word word ≡ true → AllByRecursion IsNumber ns → numbers_after word (word ++ spaced ns) ≡ Some ns
 after_again word ns plain same all = rw (parts_again word ns (plain_word word plain) all, same) refl
 
 pub after_takes : (word row ns : List ℕ) → numbers_after word row ≡ Some ns → (row ≡ word ++ spaced ns) × AllByRecursion IsNumber ns
 after_takes word row ns h = by_parts (parts_of (fields row)) refl h
   where
-    by_test : (p : Parts) → parts_of (fields row) ≡ Some p → (b : Bool) → bytes_eq p.word word ≡ b → cond b (Some p.numbers) None ≡ Some ns → (row ≡ word ++ spaced ns) × AllByRecursion IsNumber ns
+    by_test : (p : Parts) → parts_of (fields row) ≡ Some p → (b : Bool) → bytes_eq p.word word ≡ b
+        → cond b (Some p.numbers) None ≡ Some ns → (row ≡ word ++ spaced ns) × AllByRecursion IsNumber ns
     by_test p e false f h = absurd cc
     by_test p e true f h =
         let t = parts_take row p e in
-        let is : p.numbers ≡ ns = cc in
-        (t.0 ∙ ap (λ (w : List ℕ). w ++ spaced p.numbers) (same_text p.word word (sym f)) ∙ ap (λ (v : List ℕ). word ++ spaced v) is, subst (AllByRecursion IsNumber) is t.1)
+        let is : p.numbers ≡ ns = cc in (
+          t.0 ∙ ap (λ (w : List ℕ). w ++ spaced p.numbers) (same_text p.word word (sym f))
+              ∙ ap (λ (v : List ℕ). word ++ spaced v) is,
+          subst (AllByRecursion IsNumber) is t.1,
+        )
 
     by_parts : (o : Option Parts) → parts_of (fields row) ≡ o → numbers_in word o ≡ Some ns → (row ≡ word ++ spaced ns) × AllByRecursion IsNumber ns
     by_parts None e h = absurd cc
@@ -275,7 +299,8 @@ makespan_again (negsuc n) small = absurd small
 pub makespan_takes : (row : List ℕ) (z : ℤ) → makespan_in row ≡ Some z → (row ≡ codes "optimal" ++ spaced_times (z ∷ [])) × IsWritableTime z
 makespan_takes row z h = by_numbers (numbers_after (codes "optimal") row) refl h
   where
-    by_numbers : (o : Option (List ℕ)) → numbers_after (codes "optimal") row ≡ o → only_time o ≡ Some z → (row ≡ codes "optimal" ++ spaced_times (z ∷ [])) × IsWritableTime z
+    by_numbers : (o : Option (List ℕ)) → numbers_after (codes "optimal") row ≡ o → only_time o ≡ Some z
+        → (row ≡ codes "optimal" ++ spaced_times (z ∷ [])) × IsWritableTime z
     by_numbers (Some (n ∷ [])) e h =
         let t = after_takes (codes "optimal") row (n ∷ []) e in
         let is : z ≡ pos n = cc in
@@ -287,14 +312,18 @@ makespan_takes row z h = by_numbers (numbers_after (codes "optimal") row) refl h
 pub starts_again : (times : List ℤ) → 0 < length times → AllByRecursion IsWritableTime times → starts_in (codes "starts" ++ spaced_times times) ≡ Some times
 starts_again times some all = let n = numbers_of times all in rw n.is (as_numbers n.numbers n.small (subst (λ (ts : List ℤ). 0 < length ts) n.is some))
   where
-    as_numbers : (ns : List ℕ) → AllByRecursion IsNumber ns → 0 < length (map pos ns) → starts_in (codes "starts" ++ spaced_times (map pos ns)) ≡ Some (map pos ns)
+    as_numbers : (ns : List ℕ) → AllByRecursion IsNumber ns → 0 < length (map pos ns)
+        → starts_in (codes "starts" ++ spaced_times (map pos ns)) ≡ Some (map pos ns)
     as_numbers [] all some = absurd (omega arith)
-    as_numbers (n ∷ ns) all some = ap (λ (text : List ℕ). starts_in (codes "starts" ++ text)) (spaced_as_times (n ∷ ns)) ∙ ap some_times (after_again (codes "starts") (n ∷ ns) refl refl all)
+    as_numbers (n ∷ ns) all some = ap (λ (text : List ℕ). starts_in (codes "starts" ++ text)) (spaced_as_times (n ∷ ns))
+        ∙ ap some_times (after_again (codes "starts") (n ∷ ns) refl refl all)
 
-pub starts_take : (row : List ℕ) (times : List ℤ) → starts_in row ≡ Some times → (row ≡ codes "starts" ++ spaced_times times) × (0 < length times) × AllByRecursion IsWritableTime times
+pub starts_take : (row : List ℕ) (times : List ℤ) → starts_in row ≡ Some times
+    → (row ≡ codes "starts" ++ spaced_times times) × (0 < length times) × AllByRecursion IsWritableTime times
 starts_take row times h = by_numbers (numbers_after (codes "starts") row) refl h
   where
-    by_numbers : (o : Option (List ℕ)) → numbers_after (codes "starts") row ≡ o → some_times o ≡ Some times → (row ≡ codes "starts" ++ spaced_times times) × (0 < length times) × AllByRecursion IsWritableTime times
+    by_numbers : (o : Option (List ℕ)) → numbers_after (codes "starts") row ≡ o → some_times o ≡ Some times
+        → (row ≡ codes "starts" ++ spaced_times times) × (0 < length times) × AllByRecursion IsWritableTime times
     by_numbers (Some (n ∷ ns)) e h =
         let t = after_takes (codes "starts") row (n ∷ ns) e in
         let is : times ≡ map pos (n ∷ ns) = cc in
@@ -308,8 +337,10 @@ other_word z h = let e : 110 ≡ 111 = ap (λ (text : List ℕ). get_or text 0 0
 
 pub claim_injective : (a b : Claim) (x y : List (List ℕ)) → IsWritableClaim a → IsWritableClaim b → claim_rows a ++ x ≡ claim_rows b ++ y → (a ≡ b) × (x ≡ y)
 claim_injective claims.NoSchedule claims.NoSchedule x y wa wb h = (refl, cc)
-claim_injective claims.NoSchedule (claims.Optimal m S) x y wa wb h = let e : codes "no schedule" ≡ codes "optimal" ++ spaced_times (m ∷ []) = cc in absurd (other_word m e)
-claim_injective (claims.Optimal m S) claims.NoSchedule x y wa wb h = let e : codes "no schedule" ≡ codes "optimal" ++ spaced_times (m ∷ []) = cc in absurd (other_word m e)
+claim_injective claims.NoSchedule (claims.Optimal m S) x y wa wb h =
+    let e : codes "no schedule" ≡ codes "optimal" ++ spaced_times (m ∷ []) = cc in absurd (other_word m e)
+claim_injective (claims.Optimal m S) claims.NoSchedule x y wa wb h =
+    let e : codes "no schedule" ≡ codes "optimal" ++ spaced_times (m ∷ []) = cc in absurd (other_word m e)
 claim_injective (claims.Optimal m S) (claims.Optimal n T) x y wa wb h =
     let e : codes "optimal" ++ spaced_times (m ∷ []) ≡ codes "optimal" ++ spaced_times (n ∷ []) = cc in
     let f : codes "starts" ++ spaced_times S ≡ codes "starts" ++ spaced_times T = cc in

@@ -1,5 +1,6 @@
 -- A text has one first fault, and none where its rows are those of a whole.
-use Rattle.std.proofs.Common.{◌≡◌, ◌≢◌, ℕ, List, [], ◌∷◌, ◌++◌, map, length, refl, sym, ap, ◌∙◌, subst, append_assoc, append-nil, eqb, true, false, Bool, ℤ, ◌+◌, arith, length-append, ◌⊎◌, inl, inr, not}
+use Rattle.std.proofs.Common.{◌≡◌, ◌≢◌, ℕ, List, [], ◌∷◌, ◌++◌, map, length, refl, sym, ap, ◌∙◌, subst, append_assoc}
+use Rattle.std.proofs.Common.{append-nil, eqb, true, false, Bool, ℤ, ◌+◌, arith, length-append, ◌⊎◌, inl, inr, not}
 use Rattle.std.specs.Char.{is_ascii_digit}
 use Rattle.std.specs.Fmt.{decimal}
 use Rattle.std.specs.List.{onto_first, join_with_byte, flat_map, AllByRecursion, list_all, All}
@@ -57,7 +58,9 @@ plain_all (b ∷ bs) h = let p = and_parts (not (is_newline b)) _ h in All-cons 
 pub pieces_of : (rows : List (List ℕ)) → AllByRecursion HasNone rows → line_pieces (flat_map ended rows) ≡ rows ++ [] ∷ []
 pieces_of [] all = refl
 pieces_of (row ∷ rows) all =
-    ap line_pieces (append_assoc row (10 ∷ []) (flat_map ended rows)) ∙ slice_split_at is_newline row 10 (flat_map ended rows) (plain_all row all.0) refl ∙ ap (λ (ps : List (List ℕ)). row ∷ ps) (pieces_of rows all.1)
+    ap line_pieces (append_assoc row (10 ∷ []) (flat_map ended rows))
+    ∙ slice_split_at is_newline row 10 (flat_map ended rows) (plain_all row all.0) refl
+    ∙ ap (λ (ps : List (List ℕ)). row ∷ ps) (pieces_of rows all.1)
 
 pub plain_append : (xs ys : List ℕ) → HasNone xs → HasNone ys → HasNone (xs ++ ys)
 plain_append [] ys hx hy = hy
@@ -84,9 +87,13 @@ lines_text row_of [] = refl
 lines_text row_of (l ∷ ls) = ap (λ (rest : List ℕ). ended (row_of l) ++ rest) (lines_text row_of ls)
 
 -- rows and then lines, written one after the other, are the text of all
-pub written : {Line : Type 0} (row_of : Line → List ℕ) (rows : List (List ℕ)) (lines : List Line) (head all items : List ℕ) → head ≡ flat_map ended rows → all ≡ head ++ flat_map (λ l. ended (row_of l)) lines → items ≡ all → items ≡ flat_map ended (rows ++ map row_of lines)
+pub written : {Line : Type 0} (row_of : Line → List ℕ) (rows : List (List ℕ)) (lines : List Line)
+    (head all items : List ℕ) → head ≡ flat_map ended rows → all ≡ head ++ flat_map (λ l. ended (row_of l)) lines
+    → items ≡ all → items ≡ flat_map ended (rows ++ map row_of lines)
 written row_of rows lines head all items h a i =
-    i ∙ a ∙ ap (λ (t : List ℕ). t ++ flat_map (λ l. ended (row_of l)) lines) h ∙ ap (λ (t : List ℕ). flat_map ended rows ++ t) (lines_text row_of lines) ∙ sym (flat_map-append ended rows (map row_of lines))
+    i ∙ a ∙ ap (λ (t : List ℕ). t ++ flat_map (λ l. ended (row_of l)) lines) h
+    ∙ ap (λ (t : List ℕ). flat_map ended rows ++ t) (lines_text row_of lines)
+    ∙ sym (flat_map-append ended rows (map row_of lines))
 
 pub snoc : (front : List (List ℕ)) (here : List ℕ) (back : List (List ℕ)) → (front ++ here ∷ []) ++ back ≡ front ++ here ∷ back
 snoc front here back = append_assoc front (here ∷ []) back
@@ -97,16 +104,46 @@ pub record Stands (IsWhole : List (List ℕ) → Type 0) (front : List (List ℕ
   pub begins : Begin IsWhole front
   pub unfinished : ¬ IsWhole front
 
-pub missing_at : (IsWhole : List (List ℕ) → Type 0) (front : List (List ℕ)) (text : List ℕ) → Stands IsWhole front → line_pieces text ≡ text ∷ [] → HasRowFault IsWhole (front ++ line_pieces text) (length front + 1) (missing text)
-missing_at IsWhole front [] s h = record { front = front; here = []; back = []; placed = refl; begins = s.begins; at = refl; wrong = (s.unfinished, refl, refl) }
-missing_at IsWhole front (b ∷ bs) s h = record { front = front; here = b ∷ bs; back = []; placed = ap (λ (ps : List (List ℕ)). front ++ ps) h; begins = s.begins; at = refl; wrong = (s.unfinished, λ e. cc) }
+pub missing_at : (IsWhole : List (List ℕ) → Type 0) (front : List (List ℕ)) (text : List ℕ) → Stands IsWhole front
+    → line_pieces text ≡ text ∷ [] → HasRowFault IsWhole (front ++ line_pieces text) (length front + 1) (missing text)
+missing_at IsWhole front [] s h = record {
+  front = front;
+  here = [];
+  back = [];
+  placed = refl;
+  begins = s.begins;
+  at = refl;
+  wrong =
+      (s.unfinished, refl, refl);
+}
+missing_at IsWhole front (b ∷ bs) s h = record {
+  front = front;
+  here = b ∷ bs;
+  back = [];
+  placed = ap (λ (ps : List (List ℕ)). front ++ ps) h;
+  begins = s.begins;
+  at = refl;
+  wrong = (s.unfinished, λ e. cc);
+}
 
-pub form_at : (IsWhole : List (List ℕ) → Type 0) (front : List (List ℕ)) (text row rest : List ℕ) → Stands IsWhole front → ¬ Begin IsWhole (front ++ row ∷ []) → line_pieces text ≡ row ∷ line_pieces rest → HasRowFault IsWhole (front ++ line_pieces text) (length front + 1) form
+pub form_at : (IsWhole : List (List ℕ) → Type 0) (front : List (List ℕ)) (text row rest : List ℕ) → Stands IsWhole front
+    → ¬ Begin IsWhole (front ++ row ∷ []) → line_pieces text ≡ row ∷ line_pieces rest
+    → HasRowFault IsWhole (front ++ line_pieces text) (length front + 1) form
 form_at IsWhole front text row rest s never h =
     let p = some_pieces rest in
-    record { front = front; here = row; back = p.first ∷ p.others; placed = ap (λ (ps : List (List ℕ)). front ++ ps) (h ∙ ap (λ (ps : List (List ℕ)). row ∷ ps) p.is); begins = s.begins; at = refl; wrong = (s.unfinished, never) }
+    record {
+      front = front;
+      here = row;
+      back = p.first ∷ p.others;
+      placed =
+          ap (λ (ps : List (List ℕ)). front ++ ps) (h ∙ ap (λ (ps : List (List ℕ)). row ∷ ps) p.is);
+      begins = s.begins;
+      at = refl;
+      wrong = (s.unfinished, never);
+    }
 
-pub trailing_at : (IsWhole : List (List ℕ) → Type 0) (front : List (List ℕ)) (text : List ℕ) → IsWhole front → Begin IsWhole front → text ≢ [] → HasRowFault IsWhole (front ++ line_pieces text) (length front + 1) trailing
+pub trailing_at : (IsWhole : List (List ℕ) → Type 0) (front : List (List ℕ)) (text : List ℕ) → IsWhole front
+    → Begin IsWhole front → text ≢ [] → HasRowFault IsWhole (front ++ line_pieces text) (length front + 1) trailing
 trailing_at IsWhole front text whole begins some =
     let p = some_pieces text in
     record {
@@ -116,7 +153,12 @@ trailing_at IsWhole front text whole begins some =
       placed = ap (λ (ps : List (List ℕ)). front ++ ps) p.is;
       begins = begins;
       at = refl;
-      wrong = (whole, λ none. some (no_text text (p.is ∙ ap (λ (first : List ℕ). first ∷ p.others) none.0 ∙ ap (λ (others : List (List ℕ)). [] ∷ others) none.1)));
+      wrong = (
+        whole,
+        λ none. some (no_text text
+            (p.is ∙ ap (λ (first : List ℕ). first ∷ p.others) none.0
+            ∙ ap (λ (others : List (List ℕ)). [] ∷ others) none.1)),
+      );
     }
 
 -- ---- the rows of a whole have no fault
@@ -128,7 +170,8 @@ AtEnd rows front here back = (front ≡ rows) × (here ≡ []) × (back ≡ [])
 abbrev pub Inside : List (List ℕ) → List (List ℕ) → List ℕ → List (List ℕ) → Type 0
 Inside rows front here back = (rest : List (List ℕ)) × (rows ≡ front ++ here ∷ rest) × (back ≡ rest ++ [] ∷ [])
 
-pub cut : (rows front : List (List ℕ)) (here : List ℕ) (back : List (List ℕ)) → rows ++ [] ∷ [] ≡ front ++ here ∷ back → AtEnd rows front here back ⊎ Inside rows front here back
+pub cut : (rows front : List (List ℕ)) (here : List ℕ) (back : List (List ℕ)) → rows ++ [] ∷ [] ≡ front ++ here ∷ back
+    → AtEnd rows front here back ⊎ Inside rows front here back
 cut [] [] here back h = inl (refl, cc, cc)
 cut [] (f ∷ []) here back h = absurd cc
 cut [] (f ∷ g ∷ fs) here back h = absurd cc
@@ -145,7 +188,9 @@ cut (r ∷ rs) (f ∷ fs) here back h =
 pub not_ended : (rest : List (List ℕ)) → [] ≡ rest ++ [] ∷ [] → ⊥
 not_ended rest h = omega (arith, ap length h, length-append rest ([] ∷ []))
 
-pub whole_no_fault : (IsWhole : List (List ℕ) → Type 0) → IsNeverLonger IsWhole → (rows : List (List ℕ)) (line : ℕ) (what : RowFault) → IsWhole rows → HasRowFault IsWhole (rows ++ [] ∷ []) line what → ⊥
+pub whole_no_fault : (IsWhole : List (List ℕ) → Type 0) → IsNeverLonger IsWhole
+    → (rows : List (List ℕ)) (line : ℕ) (what : RowFault) → IsWhole rows
+    → HasRowFault IsWhole (rows ++ [] ∷ []) line what → ⊥
 whole_no_fault IsWhole never rows line what whole f = by_what what f.back f.wrong (cut rows f.front f.here f.back f.placed)
   where
     goes_on : (rest : List (List ℕ)) → rows ≡ f.front ++ f.here ∷ rest → ¬ IsWhole f.front
@@ -154,7 +199,8 @@ whole_no_fault IsWhole never rows line what whole f = by_what what f.back f.wron
     begins : (rest : List (List ℕ)) → rows ≡ f.front ++ f.here ∷ rest → Begin IsWhole (f.front ++ f.here ∷ [])
     begins rest h = (rest, subst IsWhole (h ∙ sym (snoc f.front f.here rest)) whole)
 
-    by_what : (what : RowFault) (back : List (List ℕ)) → IsWrong IsWhole f.front f.here back what → AtEnd rows f.front f.here back ⊎ Inside rows f.front f.here back → ⊥
+    by_what : (what : RowFault) (back : List (List ℕ)) → IsWrong IsWhole f.front f.here back what
+        → AtEnd rows f.front f.here back ⊎ Inside rows f.front f.here back → ⊥
     by_what form [] wrong (inl (a, b, c)) = wrong.1 b
     by_what form (next ∷ back) wrong (inl (a, b, c)) = cc
     by_what form [] wrong (inr (rest, h, b)) = not_ended rest b
@@ -187,9 +233,11 @@ record Before (front other : List (List ℕ)) (here there : List ℕ) (back behi
   backs : back ≡ between ++ there ∷ behind
 
 abbrev Order : List (List ℕ) → List (List ℕ) → List ℕ → List ℕ → List (List ℕ) → List (List ℕ) → Type 0
-Order front other here there back behind = Same front other here there back behind ⊎ (Before front other here there back behind ⊎ Before other front there here behind back)
+Order front other here there back behind = Same front other here there back behind
+    ⊎ (Before front other here there back behind ⊎ Before other front there here behind back)
 
-order : (front other : List (List ℕ)) (here there : List ℕ) (back behind : List (List ℕ)) → front ++ here ∷ back ≡ other ++ there ∷ behind → Order front other here there back behind
+order : (front other : List (List ℕ)) (here there : List ℕ) (back behind : List (List ℕ))
+    → front ++ here ∷ back ≡ other ++ there ∷ behind → Order front other here there back behind
 order [] [] x y xs ys h = inl (record { fronts = refl; heres = cc; backs = cc })
 order [] (g ∷ gs) x y xs ys h =
     let e : g ≡ x = cc in
@@ -204,16 +252,27 @@ order (f ∷ fs) (g ∷ gs) x y xs ys h =
   where
     behind : f ≡ g → Order fs gs x y xs ys → Order (f ∷ fs) (g ∷ gs) x y xs ys
     behind e (inl s) = inl (record { fronts = ap (λ (z : List ℕ). z ∷ fs) e ∙ ap (λ (zs : List (List ℕ)). g ∷ zs) s.fronts; heres = s.heres; backs = s.backs })
-    behind e (inr (inl b)) = inr (inl (record { between = b.between; fronts = ap (λ (z : List ℕ). z ∷ gs) (sym e) ∙ ap (λ (zs : List (List ℕ)). f ∷ zs) b.fronts; backs = b.backs }))
-    behind e (inr (inr b)) = inr (inr (record { between = b.between; fronts = ap (λ (z : List ℕ). z ∷ fs) e ∙ ap (λ (zs : List (List ℕ)). g ∷ zs) b.fronts; backs = b.backs }))
+    behind e (inr (inl b)) = inr (inl (record {
+      between = b.between;
+      fronts = ap (λ (z : List ℕ). z ∷ gs) (sym e)
+          ∙ ap (λ (zs : List (List ℕ)). f ∷ zs) b.fronts;
+      backs = b.backs;
+    }))
+    behind e (inr (inr b)) = inr (inr (record {
+      between = b.between;
+      fronts = ap (λ (z : List ℕ). z ∷ fs) e ∙ ap (λ (zs : List (List ℕ)). g ∷ zs) b.fronts;
+      backs = b.backs;
+    }))
 
 -- a piece that is the last, and is nothing, is not broken
-not_last : (IsWhole : List (List ℕ) → Type 0) (front : List (List ℕ)) (here : List ℕ) (back : List (List ℕ)) → IsBroken IsWhole front here back → here ≡ [] → back ≡ [] → ⊥
+not_last : (IsWhole : List (List ℕ) → Type 0) (front : List (List ℕ)) (here : List ℕ) (back : List (List ℕ))
+    → IsBroken IsWhole front here back → here ≡ [] → back ≡ [] → ⊥
 not_last IsWhole front here [] broken none last = broken none
 not_last IsWhole front here (next ∷ back) broken none last = cc
 
 -- what is wrong in one place is one thing
-one_wrong : (IsWhole : List (List ℕ) → Type 0) (front : List (List ℕ)) (here : List ℕ) (back : List (List ℕ)) (v w : RowFault) → IsWrong IsWhole front here back v → IsWrong IsWhole front here back w → v ≡ w
+one_wrong : (IsWhole : List (List ℕ) → Type 0) (front : List (List ℕ)) (here : List ℕ) (back : List (List ℕ))
+    (v w : RowFault) → IsWrong IsWhole front here back v → IsWrong IsWhole front here back w → v ≡ w
 one_wrong W front here back form short a b = absurd (not_last W front here back a.1 b.1 b.2)
 one_wrong W front here back form trailing a b = absurd (a.0 b.0)
 one_wrong W front here back short form a b = absurd (not_last W front here back b.1 a.1 a.2)
@@ -223,7 +282,9 @@ one_wrong W front here back trailing short a b = absurd (b.0 a.0)
 one_wrong W front here back v w a b = refl
 
 -- a line before one that a whole goes on to is not wrong
-right_before : (IsWhole : List (List ℕ) → Type 0) → IsNeverLonger IsWhole → (all : List (List ℕ)) (k l : ℕ) (a b : RowFault) (f : HasRowFault IsWhole all k a) (g : HasRowFault IsWhole all l b) → Before f.front g.front f.here g.here f.back g.back → ⊥
+right_before : (IsWhole : List (List ℕ) → Type 0) → IsNeverLonger IsWhole
+    → (all : List (List ℕ)) (k l : ℕ) (a b : RowFault) (f : HasRowFault IsWhole all k a)
+    (g : HasRowFault IsWhole all l b) → Before f.front g.front f.here g.here f.back g.back → ⊥
 right_before IsWhole never all k l a b f g before = by_what a f.back f.wrong before.backs
   where
     more : List (List ℕ)
@@ -247,15 +308,21 @@ right_before IsWhole never all k l a b f g before = by_what a f.back f.wrong bef
     by_what short back wrong e = some_back back e wrong.2
     by_what trailing back wrong e = not_whole wrong.0
 
-pub one_fault : (IsWhole : List (List ℕ) → Type 0) → IsNeverLonger IsWhole → (all : List (List ℕ)) (k l : ℕ) (a b : RowFault) → HasRowFault IsWhole all k a → HasRowFault IsWhole all l b → (k ≡ l) × (a ≡ b)
+pub one_fault : (IsWhole : List (List ℕ) → Type 0) → IsNeverLonger IsWhole
+    → (all : List (List ℕ)) (k l : ℕ) (a b : RowFault) → HasRowFault IsWhole all k a → HasRowFault IsWhole all l b
+    → (k ≡ l) × (a ≡ b)
 one_fault IsWhole never all k l a b f g = by_order (order f.front g.front f.here g.here f.back g.back (sym f.placed ∙ g.placed))
   where
     here_too : Same f.front g.front f.here g.here f.back g.back → IsWrong IsWhole f.front f.here f.back b
     here_too s =
         subst (λ (front : List (List ℕ)). IsWrong IsWhole front f.here f.back b) (sym s.fronts)
-        (subst (λ (here : List ℕ). IsWrong IsWhole g.front here f.back b) (sym s.heres) (subst (λ (back : List (List ℕ)). IsWrong IsWhole g.front g.here back b) (sym s.backs) g.wrong))
+        (subst (λ (here : List ℕ). IsWrong IsWhole g.front here f.back b) (sym s.heres)
+        (subst (λ (back : List (List ℕ)). IsWrong IsWhole g.front g.here back b) (sym s.backs) g.wrong))
 
     by_order : Order f.front g.front f.here g.here f.back g.back → (k ≡ l) × (a ≡ b)
-    by_order (inl s) = (f.at ∙ ap (λ (front : List (List ℕ)). length front + 1) s.fronts ∙ sym g.at, one_wrong IsWhole f.front f.here f.back a b f.wrong (here_too s))
+    by_order (inl s) = (
+      f.at ∙ ap (λ (front : List (List ℕ)). length front + 1) s.fronts ∙ sym g.at,
+      one_wrong IsWhole f.front f.here f.back a b f.wrong (here_too s),
+    )
     by_order (inr (inl before)) = absurd (right_before IsWhole never all k l a b f g before)
     by_order (inr (inr before)) = absurd (right_before IsWhole never all l k b a g f before)

@@ -1,13 +1,17 @@
 -- What the laws of the text of a search's record follow from.
-use Rattle.std.proofs.Common.{◌≡◌, ◌↔◌, ℕ, zero, suc, ◌+◌, ◌-◌, ◌<◌, ◌≤◌, List, [], ◌∷◌, ◌++◌, refl, sym, ap, ◌∙◌, subst, arith, append_assoc, append-nil, ◌*◌, Some, length, ◌≢◌, None, pos, ℤ, codes}
+use Rattle.std.proofs.Common.{◌≡◌, ◌↔◌, ℕ, zero, suc, ◌+◌, ◌-◌, ◌<◌, ◌≤◌, List, [], ◌∷◌, ◌++◌, refl, sym, ap, ◌∙◌}
+use Rattle.std.proofs.Common.{subst, arith, append_assoc, append-nil, ◌*◌, Some, length, ◌≢◌, None, pos, ℤ, codes}
 use Rattle.network.specs.declared.parts.Pair.{Pair}
-use Rattle.record_text.specs.Tree.{Tree, force, solved, cut, dead, split, Trees, no_trees, tree, count_trees, pair_count, IsTree, AreTrees, lines_of, lines_of_all, IsTreeOf, Completes, still_due, count_members, Line, Claim}
+use Rattle.record_text.specs.Tree.{Tree, force, solved, cut, dead, split, Trees, no_trees, tree, count_trees}
+use Rattle.record_text.specs.Tree.{pair_count, IsTree, AreTrees, lines_of, lines_of_all, IsTreeOf, Completes, still_due}
+use Rattle.record_text.specs.Tree.{count_members, Line, Claim}
 use Rattle.record_text.specs.declared.line.Line.TheVariants as kind
 use Rattle.std.proofs.Math.Nat.{mul-le-mul_left}
 use Rattle.std.specs.List.{AllByRecursion}
 use Rattle.record_text.specs.Text.{IsWritableLine, row_of, IsWritableClaim, claim_rows, spaced, spaced_times, search_kind}
 use Rattle.record_text.specs.Reading.{makespan_in, starts_in, search_rules}
-use Rattle.record_text.proofs.RowReads.{line_again, line_takes, members_fit, claim_injective, makespan_again, makespan_takes, starts_again, starts_take, other_word}
+use Rattle.record_text.proofs.RowReads.{line_again, line_takes, members_fit, claim_injective, makespan_again}
+use Rattle.record_text.proofs.RowReads.{makespan_takes, starts_again, starts_take, other_word}
 use Rattle.record_text.specs.declared.line.Claim.TheVariants as claims
 use Rattle.record_text.proofs.KindLaws.{stands_in, no_claim}
 use Rattle.record_text.proofs.Rows.{plain_append, plain_spaced, plain_times, Stands}
@@ -34,7 +38,15 @@ record Parts (k : ℕ) (ts : Trees) : Type 0 where
   spelled : lines_of_all front ++ lines_of_all back ≡ lines_of_all ts
 
 parts : (k : ℕ) (ts : Trees) → k ≤ count_trees ts → AreTrees ts → Parts k ts
-parts zero ts few shapes = record { front = no_trees; back = ts; front_count = refl; back_count = omega arith; front_shapes = tt; back_shapes = shapes; spelled = refl }
+parts zero ts few shapes = record {
+  front = no_trees;
+  back = ts;
+  front_count = refl;
+  back_count = omega arith;
+  front_shapes = tt;
+  back_shapes = shapes;
+  spelled = refl;
+}
 parts (suc k) no_trees few shapes = absurd (omega arith)
 parts (suc k) (tree t ts) few shapes =
     let p = parts k ts (omega arith) shapes.1 in
@@ -48,7 +60,8 @@ parts (suc k) (tree t ts) few shapes =
       spelled = append_assoc (lines_of t) (lines_of_all p.front) (lines_of_all p.back) ∙ ap (λ (lines : List Line). lines_of t ++ lines) p.spelled;
     }
 
-leaf_grows : (due : ℕ) (lines : List Line) (leaf : Tree) (line : Line) → IsTree leaf → lines_of leaf ≡ line ∷ [] → 0 < due → Grows (due - 1) lines → Grows due (line ∷ lines)
+leaf_grows : (due : ℕ) (lines : List Line) (leaf : Tree) (line : Line) → IsTree leaf → lines_of leaf ≡ line ∷ []
+    → 0 < due → Grows (due - 1) lines → Grows due (line ∷ lines)
 leaf_grows due lines leaf line shape only some g = record {
   trees = tree leaf g.trees;
   count = omega (arith, g.count);
@@ -56,9 +69,17 @@ leaf_grows due lines leaf line shape only some g = record {
   spelled = ap (λ (own : List Line). own ++ lines_of_all g.trees) only ∙ ap (λ (others : List Line). line ∷ others) g.spelled;
 }
 
-force_grows : (due : ℕ) (lines : List Line) (pair : Pair) (ts : Trees) → 0 < due → count_trees ts ≡ due → AreTrees ts → lines_of_all ts ≡ lines → Grows due (kind.Force pair ∷ lines)
+force_grows : (due : ℕ) (lines : List Line) (pair : Pair) (ts : Trees) → 0 < due → count_trees ts ≡ due → AreTrees ts
+    → lines_of_all ts ≡ lines → Grows due (kind.Force pair ∷ lines)
 force_grows due lines pair no_trees some count shapes spelled = absurd (omega arith)
-force_grows due lines pair (tree t ts) some count shapes spelled = record { trees = tree (force pair t) ts; count = count; shapes = shapes; spelled = ap (λ (others : List Line). kind.Force pair ∷ others) spelled }
+force_grows due lines pair (tree t ts) some count shapes spelled =
+    record {
+      trees = tree (force pair t) ts;
+      count = count;
+      shapes = shapes;
+      spelled =
+          ap (λ (others : List Line). kind.Force pair ∷ others) spelled;
+    }
 
 pub grown : (due : ℕ) (lines : List Line) → Completes due lines → Grows due lines
 grown due [] h = record { trees = no_trees; count = sym h; shapes = tt; spelled = refl }
@@ -82,8 +103,12 @@ less_one due rest h = let same : due ≡ suc due - 1 = omega arith in subst (λ 
 mutual
   pub tree_completes : (t : Tree) (due : ℕ) (rest : List Line) → IsTree t → Completes due rest → Completes (suc due) (lines_of t ++ rest)
   tree_completes (force pair t) due rest shape h = (omega arith, tt, tree_completes t due rest shape h)
-  tree_completes (split resource members children) due rest shape h =
-      (omega arith, shape.0, subst (λ (n : ℕ). Completes n (lines_of_all children ++ rest)) (omega (arith, shape.1)) (trees_complete children due rest shape.2 h))
+  tree_completes (split resource members children) due rest shape h = (
+    omega arith,
+    shape.0,
+    subst (λ (n : ℕ). Completes n (lines_of_all children ++ rest)) (omega (arith, shape.1))
+        (trees_complete children due rest shape.2 h),
+  )
   tree_completes t due rest shape h = (omega arith, tt, less_one due rest h)
 
   pub trees_complete : (ts : Trees) (due : ℕ) (rest : List Line) → AreTrees ts → Completes due rest → Completes (count_trees ts + due) (lines_of_all ts ++ rest)
@@ -96,7 +121,11 @@ mutual
 -- a list of lines is that of a tree exactly where the count of nodes that are due, at first 1, falls to 0
 -- at its end and not before
 pub trees_law : (lines : List Line) → Completes 1 lines ↔ ((t : Tree) × IsTreeOf lines t)
-trees_law lines = (λ h. let g = grown 1 lines h in only g.trees g.count g.shapes g.spelled, λ h. subst (Completes 1) (append-nil (lines_of h.0) ∙ h.1.spelled) (tree_completes h.0 0 [] h.1.shape refl))
+trees_law lines = (
+  λ h. let g = grown 1 lines h in only g.trees g.count g.shapes g.spelled,
+  λ h.
+      subst (Completes 1) (append-nil (lines_of h.0) ∙ h.1.spelled) (tree_completes h.0 0 [] h.1.shape refl),
+)
   where
     only : (ts : Trees) → count_trees ts ≡ 1 → AreTrees ts → lines_of_all ts ≡ lines → (t : Tree) × IsTreeOf lines t
     only (tree t no_trees) count shapes spelled = (t, record { shape = shapes.0; spelled = sym (append-nil (lines_of t)) ∙ spelled })
@@ -141,10 +170,15 @@ some_rows (claims.Optimal m S) = omega arith
 
 claim_plain : (claim : Claim) → IsWritableClaim claim → AllByRecursion HasNone (claim_rows claim)
 claim_plain claims.NoSchedule w = (refl, tt)
-claim_plain (claims.Optimal m S) w = (plain_append (codes "optimal") (spaced_times (m ∷ [])) refl (plain_times (m ∷ []) (w.0, tt)), (plain_append (codes "starts") (spaced_times S) refl (plain_times S w.2), tt))
+claim_plain (claims.Optimal m S) w = (
+  plain_append (codes "optimal") (spaced_times (m ∷ [])) refl
+      (plain_times (m ∷ []) (w.0, tt)),
+  (plain_append (codes "starts") (spaced_times S) refl (plain_times S w.2), tt),
+)
 
 line_plain : (line : Line) → IsWritableLine line → HasNone (row_of line)
-line_plain (kind.Force pair) w = plain_append (codes "force") (spaced (pair.before ∷ pair.after ∷ [])) refl (plain_spaced (pair.before ∷ pair.after ∷ []) (w.0, (w.1, tt)))
+line_plain (kind.Force pair) w = plain_append (codes "force") (spaced (pair.before ∷ pair.after ∷ [])) refl
+    (plain_spaced (pair.before ∷ pair.after ∷ []) (w.0, (w.1, tt)))
 line_plain (kind.Split resource members) w = plain_append (codes "split") (spaced (resource ∷ members)) refl (plain_spaced (resource ∷ members) (w.0, w.1))
 line_plain line w = refl
 
@@ -168,9 +202,12 @@ pub stands_third : (row : List ℕ) (z : ℤ) → makespan_in row ≡ Some z →
 stands_third row z h =
     let t = makespan_takes row z h in
     let starts = (codes "starts" ++ spaced_times (pos 0 ∷ [])) ∷ [] in
-    stands_in facts (claims.Optimal z (pos 0 ∷ [])) (codes "record 1" ∷ row ∷ []) starts (t.1, omega arith, (omega arith, tt)) (ap (λ (r : List ℕ). codes "record 1" ∷ r ∷ starts) (sym t.0)) (omega arith)
+    stands_in facts (claims.Optimal z (pos 0 ∷ [])) (codes "record 1" ∷ row ∷ []) starts
+    (t.1, omega arith, (omega arith, tt)) (ap (λ (r : List ℕ). codes "record 1" ∷ r ∷ starts) (sym t.0))
+    (omega arith)
 
-second_is : (claim : Claim) (x : List (List ℕ)) (row : List ℕ) (rest : List (List ℕ)) → IsWritableClaim claim → row ≢ codes "no schedule" → makespan_in row ≡ None → claim_rows claim ++ x ≡ row ∷ rest → ⊥
+second_is : (claim : Claim) (x : List (List ℕ)) (row : List ℕ) (rest : List (List ℕ)) → IsWritableClaim claim
+    → row ≢ codes "no schedule" → makespan_in row ≡ None → claim_rows claim ++ x ≡ row ∷ rest → ⊥
 second_is claims.NoSchedule x row rest w other none h = let e : codes "no schedule" ≡ row = cc in other (sym e)
 second_is (claims.Optimal m S) x row rest w other none h =
     let e : codes "optimal" ++ spaced_times (m ∷ []) ≡ row = cc in
@@ -180,7 +217,9 @@ second_is (claims.Optimal m S) x row rest w other none h =
 pub no_second : (row : List ℕ) → row ≢ codes "no schedule" → makespan_in row ≡ None → ¬ Begin (AreRows search_kind) (codes "record 1" ∷ row ∷ [])
 no_second row other none = no_claim search_kind (row ∷ []) (λ claim x rest w h. second_is claim x row rest w other none h)
 
-third_is : (claim : Claim) (x : List (List ℕ)) (second row : List ℕ) (z : ℤ) (rest : List (List ℕ)) → IsWritableClaim claim → makespan_in second ≡ Some z → starts_in row ≡ None → claim_rows claim ++ x ≡ second ∷ row ∷ rest → ⊥
+third_is : (claim : Claim) (x : List (List ℕ)) (second row : List ℕ) (z : ℤ) (rest : List (List ℕ))
+    → IsWritableClaim claim → makespan_in second ≡ Some z → starts_in row ≡ None
+    → claim_rows claim ++ x ≡ second ∷ row ∷ rest → ⊥
 third_is claims.NoSchedule x second row z rest w found none h =
     let e : codes "no schedule" ≡ second = cc in other_word z (e ∙ (makespan_takes second z found).0)
 third_is (claims.Optimal m S) x second row z rest w found none h =
@@ -188,11 +227,17 @@ third_is (claims.Optimal m S) x second row z rest w found none h =
     let f : Some S ≡ None = sym (starts_again S w.1 w.2) ∙ ap starts_in e ∙ none in
     absurd cc
 
-pub no_third : (second row : List ℕ) (z : ℤ) → makespan_in second ≡ Some z → starts_in row ≡ None → ¬ Begin (AreRows search_kind) (codes "record 1" ∷ second ∷ row ∷ [])
+pub no_third : (second row : List ℕ) (z : ℤ) → makespan_in second ≡ Some z → starts_in row ≡ None
+    → ¬ Begin (AreRows search_kind) (codes "record 1" ∷ second ∷ row ∷ [])
 no_third second row z found none = no_claim search_kind (second ∷ row ∷ []) (λ claim x rest w h. third_is claim x second row z rest w found none h)
 
-pub claim_read : (text row rest row2 rest2 : List ℕ) (z : ℤ) (S : List ℤ) → line_pieces text ≡ row ∷ line_pieces rest → makespan_in row ≡ Some z → line_pieces rest ≡ row2 ∷ line_pieces rest2 → starts_in row2 ≡ Some S → (line_pieces text ≡ claim_rows (claims.Optimal z S) ++ line_pieces rest2) × IsWritableClaim (claims.Optimal z S)
+pub claim_read : (text row rest row2 rest2 : List ℕ) (z : ℤ) (S : List ℤ) → line_pieces text ≡ row ∷ line_pieces rest
+    → makespan_in row ≡ Some z → line_pieces rest ≡ row2 ∷ line_pieces rest2 → starts_in row2 ≡ Some S
+    → (line_pieces text ≡ claim_rows (claims.Optimal z S) ++ line_pieces rest2) × IsWritableClaim (claims.Optimal z S)
 claim_read text row rest row2 rest2 z S h m k s =
     let t = makespan_takes row z m in
-    let u = starts_take row2 S s in
-    (h ∙ ap (λ (ps : List (List ℕ)). row ∷ ps) k ∙ ap (λ (r : List ℕ). r ∷ row2 ∷ line_pieces rest2) t.0 ∙ ap (λ (r : List ℕ). (codes "optimal" ++ spaced_times (z ∷ [])) ∷ r ∷ line_pieces rest2) u.0, (t.1, u.1, u.2))
+    let u = starts_take row2 S s in (
+      h ∙ ap (λ (ps : List (List ℕ)). row ∷ ps) k ∙ ap (λ (r : List ℕ). r ∷ row2 ∷ line_pieces rest2) t.0
+          ∙ ap (λ (r : List ℕ). (codes "optimal" ++ spaced_times (z ∷ [])) ∷ r ∷ line_pieces rest2) u.0,
+      (t.1, u.1, u.2),
+    )

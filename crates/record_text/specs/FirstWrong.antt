@@ -2,23 +2,16 @@
 use Rattle.std.specs.Prelude.{◌≡◌, ◌≢◌, ◌⊎◌, ℕ, ℤ, ◌+◌, List, ◌∷◌, ◌++◌, length, Result, OnOk, IfOk, IfErr}
 use Rattle.std.specs.List.{All}
 use Rattle.network.specs.Problem.{Problem}
-use Rattle.network.specs.Schedule.{IsFeasible, makespan, IsShortest, IsLowerBound, HasNoSchedule}
+use Rattle.network.specs.Schedule.{IsFeasible, makespan, IsShortest, IsLowerBound, HasNoSchedule, IsTrueVerdict}
 use Rattle.record_text.specs.declared.fault.RecordFault.{RecordFault}
 use Rattle.record_text.specs.declared.fault.RecordFaultKind.{RecordFaultKind}
 use Rattle.record_text.specs.declared.fault.RecordFaultKind.TheVariants as why
-use Rattle.record_text.specs.declared.proved.Proved.{Proved}
-use Rattle.record_text.specs.declared.proved.Proved.TheVariants as proved
+use Rattle.network.specs.declared.verdict.Verdict.{Verdict}
 use Rattle.record_text.specs.Kinds.{RecordOf, Kind}
 
 -- the starts are a feasible schedule of this makespan
 abbrev pub HasMakespan : Problem → List ℤ → ℤ → Type 0
 HasMakespan p starts length = IsFeasible p starts × (makespan starts ≡ length)
-
--- what is proved is true of the project
-abbrev pub IsFactOf : Problem → Proved → Type 0
-IsFactOf p (proved.Optimal makespan) = IsShortest p makespan
-IsFactOf p (proved.Bound bound) = IsLowerBound p bound
-IsFactOf p proved.NoSchedule = HasNoSchedule p
 
 -- what is right in records of a kind: the starts of a claim, and lines, of which one may be the first that is wrong
 pub record Judge (Claim Line : Type 0) : Type 1 where
@@ -41,12 +34,12 @@ pub record IsFirstWrongOf
   pub right : All IsRight before
   pub wrong : ¬ IsRight here
   pub line : fault.line ≡ first + length before
-  pub why : fault.why ≡ why_wrong here
+  pub kind : fault.kind ≡ why_wrong here
 
 -- the starts are wrong
 pub record HasWrongStarts (AreRightStarts : Type 0) (fault : RecordFault) : Type 0 where
   pub wrong : ¬ AreRightStarts
-  pub is : fault ≡ record { line = 3; why = why.Start }
+  pub is : fault ≡ record { line = 3; kind = why.Start }
 
 -- the starts are right, and a line is the first that is wrong
 pub record HasWrongLine (AreRightStarts IsFirstWrong : Type 0) : Type 0 where
@@ -72,9 +65,9 @@ OtherFaultIsNone {Claim} {Line} j =
 -- a right record proves what it claims, which is true; of another the first fault is told, unless memory ran out
 pub record IsVerdict
     {Claim Line : Type 0} (k : Kind Claim Line) (j : Judge Claim Line) (p : Problem) (r : RecordOf Claim Line)
-    (result : Result Proved RecordFault) : Type 0 where
+    (result : Result Verdict RecordFault) : Type 0 where
   pub right : OnOk result (IsRightBy j p r)
   pub proved : IfOk result (λ proved. proved ≡ k.says r.claim)
-  pub holds : IfOk result (IsFactOf p)
-  pub fault : IfErr result (λ fault. fault.why ≢ why.Memory → IsFirstFaultBy j p r fault)
-  pub only : IsRightBy j p r → IfErr result (λ fault. fault.why ≡ why.Memory)
+  pub holds : IfOk result (IsTrueVerdict p)
+  pub fault : IfErr result (λ fault. fault.kind ≢ why.Memory → IsFirstFaultBy j p r fault)
+  pub only : IsRightBy j p r → IfErr result (λ fault. fault.kind ≡ why.Memory)

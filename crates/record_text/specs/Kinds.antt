@@ -2,7 +2,7 @@
 use Rattle.std.specs.Prelude.{◌≡◌, ℕ, ◌+◌, ◌*◌, ◌<◌, ◌≤◌, Option, Some, List, [], ◌∷◌, ◌++◌, map, length, not, true, ◌==◌, refl}
 use Rattle.std.specs.List.{flat_map, list_all, AllByRecursion}
 use Rattle.std.specs.Coded.{Coded, code_by, coded×, coded_list}
-use Rattle.record_text.specs.declared.proved.Proved.{Proved}
+use Rattle.network.specs.declared.verdict.Verdict.{Verdict}
 pub use Rattle.record_text.specs.declared.TheConstants.{MAX_RECORD_BYTES}
 
 -- what a record says: a claim, and the lines that show it
@@ -20,7 +20,7 @@ record_code {Claim} {Line} claim line =
 pub record Kind (Claim Line : Type 0) : Type 1 where
   pub title : List ℕ
   pub claim_rows : Claim → List (List ℕ)
-  pub says : Claim → Proved
+  pub says : Claim → Verdict
   pub row_of : Line → List ℕ
   pub IsClaim : Claim → Type 0
   pub IsLine : Line → Type 0
@@ -74,7 +74,8 @@ pub record RulesHold {Line : Type 0} {row_of : Line → List ℕ} (m : Rules row
   pub reads_last : (due : ℕ) → 0 < due → m.read due (row_of m.last) ≡ Some m.last
   pub next_last : (due : ℕ) → 0 < due → m.next due m.last + 1 ≡ due
   pub takes : (due : ℕ) (row : List ℕ) (line : Line) → m.read due row ≡ Some line → row_of line ≡ row
-  pub near : (due : ℕ) (row : List ℕ) (line : Line) → m.read due row ≡ Some line → length row ≤ MAX_RECORD_BYTES → m.next due line ≤ due + length row * MAX_RECORD_BYTES
+  pub near : (due : ℕ) (row : List ℕ) (line : Line) → m.read due row ≡ Some line → length row ≤ MAX_RECORD_BYTES
+      → m.next due line ≤ due + length row * MAX_RECORD_BYTES
 
 -- the lines lead from what is due before them to what is due after
 abbrev pub IsDueAfter : {Line : Type 0} {row_of : Line → List ℕ} → Rules row_of → ℕ → List Line → ℕ → Type 0

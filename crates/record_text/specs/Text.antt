@@ -3,8 +3,8 @@ use Rattle.std.specs.Prelude.{ℕ, ◌<◌, ◌^◌, ℤ, pos, negsuc, List, [],
 use Rattle.std.specs.List.{flat_map, AllByRecursion}
 use Rattle.std.specs.Fmt.{decimal, signed_decimal}
 use Rattle.record_text.specs.declared.fields.TheConstants.{MAX_NUMBER_DIGITS}
-use Rattle.record_text.specs.declared.proved.Proved.{Proved}
-use Rattle.record_text.specs.declared.proved.Proved.TheVariants as proved
+use Rattle.network.specs.declared.verdict.Verdict.{Verdict}
+use Rattle.network.specs.declared.verdict.Verdict.TheVariants as verdict
 use Rattle.record_text.specs.declared.line.Claim.TheVariants as claims
 use Rattle.record_text.specs.declared.line.Line.TheVariants as kind
 use Rattle.record_text.specs.Tree.{Tree, IsTreeOf, Claim, Line}
@@ -35,9 +35,9 @@ claim_rows (claims.Optimal makespan starts) = optimal_rows makespan starts
 claim_rows claims.NoSchedule = codes "no schedule" ∷ []
 
 -- what a claim says, apart from the starts
-abbrev pub says : Claim → Proved
-says (claims.Optimal makespan starts) = proved.Optimal makespan
-says claims.NoSchedule = proved.NoSchedule
+abbrev pub says : Claim → Verdict
+says (claims.Optimal makespan starts) = verdict.Optimal makespan
+says claims.NoSchedule = verdict.NoSchedule
 
 -- a number that the text can hold
 abbrev pub IsNumber : ℕ → Type 0

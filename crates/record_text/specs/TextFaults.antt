@@ -17,12 +17,12 @@ why_of rows.trailing = why.Trailing
 pub record HasFault
     {Claim Line : Type 0} (k : Kind Claim Line) (all : List (List ℕ)) (fault : RecordFault) : Type 0 where
   pub what : RowFault
-  pub why : fault.why ≡ why_of what
+  pub kind : fault.kind ≡ why_of what
   pub row : HasRowFault (AreRows k) all fault.line what
 
 -- the text has more bytes than are read
 abbrev pub IsTooLong : List ℕ → RecordFault → Type 0
-IsTooLong text fault = (MAX_RECORD_BYTES < length text) × (fault ≡ record { line = 0; why = why.TooLong })
+IsTooLong text fault = (MAX_RECORD_BYTES < length text) × (fault ≡ record { line = 0; kind = why.TooLong })
 
 -- the first fault of a text: its length, and else its first line that is wrong
 abbrev pub IsFirstTextFault : {Claim Line : Type 0} → Kind Claim Line → List ℕ → RecordFault → Type 0
@@ -46,16 +46,16 @@ FaultIsNoRecord {Claim} {Line} k =
 
 -- that a line is not of the grammar where it stands
 abbrev pub form : ℕ → RecordFault
-form line = record { line = line; why = why.Form }
+form line = record { line = line; kind = why.Form }
 
 -- unless memory ran out, the row said nothing, and the fault is that its line is not of the grammar
 abbrev pub IsFormFault : {A : Type 0} → Option A → ℕ → RecordFault → Type 0
-IsFormFault said line fault = fault.why ≢ why.Memory → (said ≡ None) × (fault ≡ form line)
+IsFormFault said line fault = fault.kind ≢ why.Memory → (said ≡ None) × (fault ≡ form line)
 
 -- no row ends in the text, and the fault is that one must come at this line
 abbrev pub IsMissing : List ℕ → ℕ → RecordFault → Type 0
 IsMissing text line fault =
-    (line_pieces text ≡ text ∷ []) × (fault ≡ record { line = line; why = why_of (missing text) })
+    (line_pieces text ≡ text ∷ []) × (fault ≡ record { line = line; kind = why_of (missing text) })
 
 -- another row than this comes first, and that is the fault
 pub record IsOther (title text : List ℕ) (fault : RecordFault) : Type 0 where
@@ -72,4 +72,4 @@ IsTitleFault title text fault =
 
 -- the text is read as this record, unless memory runs out
 abbrev pub IsReadAs : {R : Type 0} → Result R RecordFault → R → Type 0
-IsReadAs read r = MatchResult read (λ found. found ≡ r) (λ fault. fault.why ≡ why.Memory)
+IsReadAs read r = MatchResult read (λ found. found ≡ r) (λ fault. fault.kind ≡ why.Memory)

@@ -9,7 +9,7 @@ ghost use Rattle.record_text.specs.declared.fault.RecordFaultKind.TheVariants.{M
 
 use crate::MAX_RECORD_BYTES;
 use crate::fault::RecordFault;
-use crate::proved::Proved;
+use network::Verdict;
 use std::alloc::{AllocError, Global};
 
 /// A line of a kind of record, whose claims are these.
@@ -29,10 +29,10 @@ pub trait RecordLine<C>: Drop {
         ensures claim { IfOk result
             (λ r. (line_pieces text.now ≡ kind.claim_rows r.0 ++ line_pieces r.1.now) × kind.IsClaim r.0) }
         ensures shorter { IfOk result (λ r. length r.1.now ≤ length text.now) }
-        ensures fault { IfErr result (λ fault. fault.why ≢ Memory → HasFault kind (kind.title ∷ line_pieces text.now) fault) };
+        ensures fault { IfErr result (λ fault. fault.kind ≢ Memory → HasFault kind (kind.title ∷ line_pieces text.now) fault) };
 
     /// What a claim says, apart from the starts.
-    fn says(claim: &C) -> Proved
+    fn says(claim: &C) -> Verdict
         ensures { result ≡ kind.says claim.now };
 
     /// The number of the first row of the lines.

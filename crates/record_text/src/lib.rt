@@ -10,7 +10,6 @@ mod fields;
 mod kind;
 mod line;
 mod listed;
-mod proved;
 mod read;
 mod record;
 mod row;
@@ -24,7 +23,6 @@ pub use fields::{MAX_NUMBER_DIGITS, number, numbers, numbers_after, split_field}
 pub use kind::RecordLine;
 pub use line::{Claim, Line};
 pub use listed::{Listed, Members, Starts};
-pub use proved::Proved;
 pub use record::{Recorded, text_law, text_of};
 pub use search::Record;
 pub use starts::read_starts;

@@ -39,7 +39,7 @@ pub(crate) fn read_lines<C, L: RecordLine<C>>(
     ensures rows { IfOk result (λ lines. line_pieces text.now ≡ map L.kind.row_of lines.items ++ [] ∷ []) }
     ensures record { IfOk result (λ lines. IsRecord L.kind (record { claim = claim.now; lines = lines.items })) }
     ensures fault { IfErr result (λ fault.
-        fault.why ≢ Memory → HasFault L.kind (head_rows L.kind claim.now ++ line_pieces text.now) fault) }
+        fault.kind ≢ Memory → HasFault L.kind (head_rows L.kind claim.now ++ line_pieces text.now) fault) }
 {
     L::known();
     let mut lines: Vec<L> = Vec::new(alloc);
@@ -57,7 +57,7 @@ pub(crate) fn read_lines<C, L: RecordLine<C>>(
     if !rest.is_empty() {
         return Err(RecordFault {
             line,
-            why: RecordFaultKind::Trailing,
+            kind: RecordFaultKind::Trailing,
         });
     }
     lines.shrink_to_fit();

@@ -106,7 +106,7 @@ impl<C: Drop, L: RecordLine<C>> Recorded<C, L> {
     /// The record of this text, or its first fault.
     fn read_text(alloc: Global, text: &[u8]) -> Result<Recorded<C, L>, RecordFault>
         ensures found { IfOk result (λ r. Spells L.kind text.now r) }
-        ensures fault { IfErr result (λ fault. fault.why ≢ Memory → IsFirstTextFault L.kind text.now fault) }
+        ensures fault { IfErr result (λ fault. fault.kind ≢ Memory → IsFirstTextFault L.kind text.now fault) }
     {
         L::known();
         let rest = after_title(text, L::title().as_bytes())?;
@@ -119,7 +119,7 @@ impl<C: Drop, L: RecordLine<C>> Recorded<C, L> {
     pub fn read(alloc: Global, text: &[u8]) -> Result<Recorded<C, L>, RecordFault>
         ensures found { IfOk result (λ r. Spells L.kind text.now r) }
         ensures only { (r : RecordOf C L) → Spells L.kind text.now r → IsReadAs result r }
-        ensures fault { IfErr result (λ fault. fault.why ≢ Memory → IsFirstTextFault L.kind text.now fault) }
+        ensures fault { IfErr result (λ fault. fault.kind ≢ Memory → IsFirstTextFault L.kind text.now fault) }
     {
         text_law::<C, L>();
         Recorded::read_text(alloc, text)

@@ -10,12 +10,12 @@ use crate::fields::numbers_after;
 use crate::kind::RecordLine;
 use crate::line::{Claim, Line};
 use crate::listed::Starts;
-use crate::proved::Proved;
 use crate::record::Recorded;
 use crate::row::line_of;
 use crate::starts::read_starts;
 use crate::text_rows::next_row;
 use crate::write::{put_numbers, put_optimal};
+use network::Verdict;
 use std::alloc::{AllocError, Global};
 
 /// A record of a search: a claim and the lines of a tree. Each number is below 10,000,000,000, and starts are at least 0.
@@ -66,12 +66,12 @@ impl RecordLine<Claim> for Line {
         Ok((Claim::Optimal { makespan, starts }, rest))
     }
 
-    fn says(claim: &Claim) -> Proved {
+    fn says(claim: &Claim) -> Verdict {
         match claim {
-            Claim::Optimal { makespan, .. } => Proved::Optimal {
+            Claim::Optimal { makespan, .. } => Verdict::Optimal {
                 makespan: *makespan,
             },
-            Claim::NoSchedule => Proved::NoSchedule,
+            Claim::NoSchedule => Verdict::NoSchedule,
         }
     }
 

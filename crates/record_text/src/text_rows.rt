@@ -28,7 +28,7 @@ pub fn next_row(text: &[u8], line: usize) -> Result<(&[u8], &[u8]), RecordFault>
         Some((row, rest)) => Ok((row, rest)),
         None => Err(RecordFault {
             line,
-            why: missing(text),
+            kind: missing(text),
         }),
     }
 }
@@ -50,7 +50,7 @@ pub fn after_title<'a>(text: &'a [u8], title: &[u8]) -> Result<&'a [u8], RecordF
     if is_too_long(text) {
         return Err(RecordFault {
             line: 0,
-            why: RecordFaultKind::TooLong,
+            kind: RecordFaultKind::TooLong,
         });
     }
     let (row, rest) = next_row(text, 1)?;

@@ -229,7 +229,7 @@ fn words_make_calls(rt: HostRuntime) -> Result<(), Fail> {
         "earliest -> Earliest, second false, record false",
         "check --project p.sch -> Check, second true, record false",
         "tidy -> Tidy, second false, record false",
-        "verify --project p.sch -> Verify, second true, record false",
+        "verify --project p.sch -> VerifyCall { project: \"p.sch\", scope: Whole }",
         "solve --nodes 7 -> Solve(SearchOptions { workers: None, nodes: 7, start: false, json: false, \
             recorded: false }), second false, record false",
         "solve --json -> Solve(SearchOptions { workers: None, nodes: 1000000, start: false, json: true, \

@@ -1,15 +1,17 @@
 -- What jobs answer, and what is read where they don't.
-use Rattle.std.proofs.Common.{◌≡◌, ℕ, Bool, true, false, ◌||◌, List, Option, None, Some, Err, refl, ap, ◌∙◌, inl, inr, ◌-◌, ◌<◌, [], ℤ, pos, length, sym, get_or, arith, Result, codes}
+use Rattle.std.proofs.Common.{◌≡◌, ℕ, Bool, true, false, ◌||◌, List, Option, None, Some, Err, refl, ap, ◌∙◌, inl, inr}
+use Rattle.std.proofs.Common.{◌-◌, ◌<◌, [], ℤ, pos, length, sym, get_or, arith, Result, codes}
 use Rattle.std.specs.Option.{MatchOption}
 use Rattle.std.specs.Prelude.{is_some}
 use Rattle.runs.specs.declared.job.Job.TheVariants as jobs
 use Rattle.answers.specs.declared.fault.Fault.{Fault}
 use Rattle.answers.specs.declared.fault.Fault.TheVariants as faults
-use Rattle.runs.specs.Runs.{Span, HasRead, HasReadUpTo, IsNoReply, RecordsWhereAsked}
+use Rattle.runs.specs.Runs.{Span, HasRead, HasReadTexts, IsNoReply, RecordsWhereAsked}
 use Rattle.answers.specs.Faults.{exit_of, IsSearchFault}
 use Rattle.answers.specs.Answers.{IsFoundText, IsStartedText, starts_text, IsEarliestText}
 use Rattle.answers.specs.Outcomes.{IsAloneText}
-use Rattle.runs.specs.Outcome.{has_workers, writes_record, SpellsOne, GivesStarts, HasFault, Inputs, IsFirstStartsFault, IsAnswer, IsSearchAnswer, IsSearchRefusal, Job, SearchOptions}
+use Rattle.runs.specs.Outcome.{has_workers, writes_record, SpellsOne, GivesStarts, HasFault, Inputs, IsFirstStartsFault}
+use Rattle.runs.specs.Outcome.{IsAnswer, IsSearchAnswer, IsSearchRefusal, Job, SearchOptions}
 use Rattle.std.proofs.lemmas.List.{get_or_default}
 use Rattle.std.proofs.lemmas.List.Elements.{All-nil}
 use Rattle.network.specs.declared.parts.Pair.{Pair}
@@ -70,11 +72,6 @@ pub refuses_start : (start : Bool) (text more : List ℕ) (fault : Fault) → st
 refuses_start true text more fault on h = inr h
 refuses_start false text more fault on h = cc
 
--- and one that spells no project
-pub refuses_project : (start : Bool) (text more : List ℕ) (fault : Fault) → HasFault text fault → IsSearchRefusal start text more fault
-refuses_project true text more fault h = inl h
-refuses_project false text more fault h = h
-
 -- ---- faults
 
 pub write_is_no_search : (fault : Fault) → fault ≡ faults.WriteFailed → ¬ IsSearchFault fault
@@ -86,15 +83,17 @@ write_is_no_search fault is (inr (inr e)) = cc
 abbrev pub failed_with : (A : Type 0) → Fault → Result A Fault
 failed_with A fault = Err fault
 
-pub MatchOption-weaker : {T : Type 0} (o : Option T) {P P' : Type 0} {Q Q' : T → Type 0} → MatchOption o P Q → (P → P') → ((x : T) → Q x → Q' x) → MatchOption o P' Q'
+pub MatchOption-weaker : {T : Type 0} (o : Option T) {P P' : Type 0} {Q Q' : T → Type 0} → MatchOption o P Q → (P → P')
+    → ((x : T) → Q x → Q' x) → MatchOption o P' Q'
 MatchOption-weaker None h p q = p h
 MatchOption-weaker (Some x) h p q = q x h
 
 -- ---- what was read
 
 -- the failure is told in other words
-inputs_where : {I S P Q : Type 0} (most : ℕ) (first : Span I) (second : Span S) → (P → Q) → (Q → P) → HasReadUpTo most P first second → HasReadUpTo most Q first second
-inputs_where most first second to from read = record {
+inputs_where : {I S P Q : Type 0} (first : Span I) (second : Span S) → (P → Q) → (Q → P)
+    → HasReadTexts P first second → HasReadTexts Q first second
+inputs_where first second to from read = record {
   within = read.within;
   second_within = read.second_within;
   failed = record {
@@ -104,16 +103,16 @@ inputs_where most first second to from read = record {
 }
 
 -- a failure to read is told as it is
-pub inputs_are_told : {I S : Type 0} (A : Type 0) (most : ℕ) (first : Span I) (second : Span S) (fault : Fault) (told : Option Fault) → told ≡ Some fault →
-    HasReadUpTo most (failed_with A fault ≡ failed_with A faults.ReadFailed) first second → HasReadUpTo most (told ≡ Some faults.ReadFailed) first second
-inputs_are_told A most first second fault told tells = inputs_where most first second
+pub inputs_are_told : {I S : Type 0} (A : Type 0) (first : Span I) (second : Span S) (fault : Fault) (told : Option Fault) → told ≡ Some fault →
+    HasReadTexts (failed_with A fault ≡ failed_with A faults.ReadFailed) first second → HasReadTexts (told ≡ Some faults.ReadFailed) first second
+inputs_are_told A first second fault told tells = inputs_where first second
     (λ (e : failed_with A fault ≡ failed_with A faults.ReadFailed). let is : fault ≡ faults.ReadFailed = cc in tells ∙ ap Some is)
     (λ (e : told ≡ Some faults.ReadFailed). let is : fault ≡ faults.ReadFailed = cc in ap (failed_with A) is)
 
 pub read_is_told : {I S : Type 0} (A : Type 0) (reads : Inputs) (first : Span I) (second : Span S) (fault : Fault) (told : Option Fault) → told ≡ Some fault →
     HasRead reads (failed_with A fault ≡ failed_with A faults.ReadFailed) first second → HasRead reads (told ≡ Some faults.ReadFailed) first second
 read_is_told A reads first second fault told tells read = record {
-  inputs = inputs_are_told A reads.limit first second fault told tells read.inputs;
+  inputs = inputs_are_told A first second fault told tells read.inputs;
   unused = read.unused;
   project_second = read.project_second;
   project_first = read.project_first;
@@ -122,7 +121,8 @@ read_is_told A reads first second fault told tells read = record {
 -- ---- replies
 
 -- a job without workers has no record
-pub records_nothing : (job : Job) (exit : ℕ) (text : List ℕ) → has_workers job ≡ false → RecordsWhereAsked job (record { exit = exit; text = text; recorded = None })
+pub records_nothing : (job : Job) (exit : ℕ) (text : List ℕ) → has_workers job ≡ false
+    → RecordsWhereAsked job (record { exit = exit; text = text; recorded = None })
 records_nothing job exit text alone = ((λ (some : false ≡ true). cc), (λ asked. let off = records_none job alone in let on = asked.0 in cc))
 
 -- where an output failed there is a reply, and nothing to be said of a text
@@ -136,7 +136,8 @@ write_has_reply job first second fault is = record {
 -- ---- What `earliest` is to write.
 
 -- the least schedule that a matrix without pairs gives, with its last start
-pub least_said : (p : Problem) (rows : Rows) (starts : List ℤ) (n : ℕ) (last d : ℤ) (text : List ℕ) → IsProject p → IsMatrixOf (activity_count p) (arcs_of p []) rows → AreEarliestFor rows starts →
+pub least_said : (p : Problem) (rows : Rows) (starts : List ℤ) (n : ℕ) (last d : ℤ) (text : List ℕ) → IsProject p
+    → IsMatrixOf (activity_count p) (arcs_of p []) rows → AreEarliestFor rows starts →
     n ≡ activity_count p → last ≡ get_or starts (n - 1) d → text ≡ starts_text (codes "earliest") last starts → IsEarliestText p 0 text
 least_said p rows starts n last d text is m earliest count at said =
     let none = All-nil (λ (q : Pair). (q.before < activity_count p) × (q.after < activity_count p)) in

@@ -1,6 +1,7 @@
 -- What was read of an input stands for all that it tells: a text within the limit is all of it, and a
 -- longer one is too long either way.
-use Rattle.std.proofs.Common.{◌≡◌, ◌≢◌, ℕ, ℤ, ◌+◌, ◌<◌, List, length, take, refl, sym, ap, subst, ◌∙◌, arith, inl, inr, ◌⊎◌, Some, ◌≤◌, [], ◌++◌, drop, Option, None, append-nil, length-take, take_all}
+use Rattle.std.proofs.Common.{◌≡◌, ◌≢◌, ℕ, ℤ, ◌+◌, ◌<◌, List, length, take, refl, sym, ap, subst, ◌∙◌, arith, inl, inr}
+use Rattle.std.proofs.Common.{◌⊎◌, Some, ◌≤◌, [], ◌++◌, drop, Option, None, append-nil, length-take, take_all}
 use Rattle.std.proofs.lemmas.Bool.{cases_order, lt-ltb}
 use Rattle.network.specs.Problem.{Problem, activity_count, IsProject}
 use Rattle.schedule_check.specs.declared.fault.StartsFault.TheVariants as starts
@@ -11,16 +12,18 @@ use Rattle.sch_reader.specs.Text.{Spells, IsFirstFault}
 use Rattle.words.specs.declared.TheConstants.{MAX_TEXT_BYTES}
 use Rattle.record_text.specs.declared.TheConstants.{MAX_RECORD_BYTES}
 use Rattle.record_text.specs.declared.fault.RecordFault.{RecordFault}
-use Rattle.record_text.specs.declared.fault.RecordFaultKind.TheVariants as why
-use Rattle.record_text.specs.Kinds.{Kind, RecordOf}
+use Rattle.record_text.specs.Text.{search_kind}
+use Rattle.record_text.specs.Tree.{SearchRecord}
 use Rattle.record_text.specs.TextFaults.{IsFirstTextFault}
 use Rattle.search_record.specs.Right as wrongs
 use Rattle.answers.specs.declared.fault.Fault.{Fault}
 use Rattle.answers.specs.declared.fault.Fault.TheVariants as faults
 use Rattle.answers.specs.Faults.{fault_of}
-use Rattle.runs.specs.Outcome.{SpellsOne, HasFault, GivesStarts, IsFirstStartsFault, GivesRecord, Tells, IsNoProof}
+use Rattle.runs.specs.Outcome.{SpellsOne, HasFault, GivesStarts, IsFirstStartsFault}
+use Rattle.runs.specs.Runs.{ReadsOn}
+use Rattle.runs.specs.Verified.{GivesTree, IsTreeFault, Tells}
 use Rattle.std.proofs.Math.Seq.{take-add, take-append_seam}
-use Rattle.std.proofs.KnownBytes.{Appends-trans}
+use Rattle.std.proofs.KnownBytes.{Appends-trans, Consumes-trans}
 use Rattle.std.specs.Io.KnownBytes.{Appends, Consumes, IsAtEnd}
 
 same_or_long : (most : ℕ) (text bytes : List ℕ) → text ≡ take (most + 1) bytes → (text ≡ bytes) ⊎ ((most < length text) × (most < length bytes))
@@ -39,7 +42,8 @@ same_or_long most text bytes e = by_length (length bytes) refl
     ]
 
 -- a text that was read as a project spells it
-pub spells_one : {Told : List ℕ → Type 0} (p : Problem) (text : List ℕ) (P : Problem → Type 0) → IsProject p × ((bytes : List ℕ) → Told bytes → Spells bytes p) → Told text → P p → SpellsOne text P
+pub spells_one : {Told : List ℕ → Type 0} (p : Problem) (text : List ℕ) (P : Problem → Type 0) → IsProject p
+    × ((bytes : List ℕ) → Told bytes → Spells bytes p) → Told text → P p → SpellsOne text P
 spells_one p text P read told has = record { project = p; is_project = read.0; spells = read.1 text told; has = has }
 
 pub spells_whole : (text bytes : List ℕ) (p : Problem) → text ≡ take (MAX_TEXT_BYTES + 1) bytes → Spells text p → Spells bytes p
@@ -63,7 +67,9 @@ fault_whole text bytes fault e h = elim (same_or_long MAX_TEXT_BYTES text bytes 
 ]
 
 -- what the reader says of a text that it refuses, for want of memory aside
-pub refused_by : (text : List ℕ) (cause : SchFault) (fault : Fault) → fault ≡ fault_of cause → ((p : Problem) → IsProject p → Spells text p → cause ≡ texts.Memory) → (cause ≢ texts.Memory → IsFirstFault text cause) → fault ≢ faults.Memory
+pub refused_by : (text : List ℕ) (cause : SchFault) (fault : Fault) → fault ≡ fault_of cause
+    → ((p : Problem) → IsProject p → Spells text p → cause ≡ texts.Memory)
+    → (cause ≢ texts.Memory → IsFirstFault text cause) → fault ≢ faults.Memory
     → HasFault text fault
 refused_by text cause fault is only first other =
     let apart : cause ≢ texts.Memory = λ e. other (is ∙ ap fault_of e) in
@@ -81,7 +87,8 @@ fault_of_all n text bytes e = elim (same_or_long MAX_TEXT_BYTES text bytes e) [
   | inr long ↦ long_starts n bytes long.1 ∙ sym (long_starts n text long.0)
 ]
 
-pub starts_fault_whole : (p : Problem) (text bytes : List ℕ) (fault : Fault) → text ≡ take (MAX_TEXT_BYTES + 1) bytes → IsFirstStartsFault p text fault → IsFirstStartsFault p bytes fault
+pub starts_fault_whole : (p : Problem) (text bytes : List ℕ) (fault : Fault) → text ≡ take (MAX_TEXT_BYTES + 1) bytes
+    → IsFirstStartsFault p text fault → IsFirstStartsFault p bytes fault
 starts_fault_whole p text bytes fault e h = record {
   cause = h.cause;
   first = fault_of_all (activity_count p) text bytes e ∙ h.first;
@@ -89,7 +96,8 @@ starts_fault_whole p text bytes fault e h = record {
 }
 
 -- and so are the starts that it gives
-pub starts_whole : (p : Problem) (text bytes : List ℕ) (P : List ℤ → Type 0) → text ≡ take (MAX_TEXT_BYTES + 1) bytes → GivesStarts p text P → GivesStarts p bytes P
+pub starts_whole : (p : Problem) (text bytes : List ℕ) (P : List ℤ → Type 0) → text ≡ take (MAX_TEXT_BYTES + 1) bytes
+    → GivesStarts p text P → GivesStarts p bytes P
 starts_whole p text bytes P e h = elim (same_or_long MAX_TEXT_BYTES text bytes e) [
   | inl same ↦ subst (λ (t : List ℕ). GivesStarts p t P) same h
   | inr long ↦ let fault = long_starts (activity_count p) text long.0 in let none = h.read in cc
@@ -97,32 +105,35 @@ starts_whole p text bytes P e h = elim (same_or_long MAX_TEXT_BYTES text bytes e
 
 -- ---- texts of records
 
-module _ {Claim Line : Type 0} (k : Kind Claim Line) where
-  -- a record that was read is that of all that the input tells
-  pub record_whole : (text bytes : List ℕ) (P : RecordOf Claim Line → Type 0) → text ≡ take (MAX_RECORD_BYTES + 1) bytes → GivesRecord k text P → GivesRecord k bytes P
-  record_whole text bytes P e h = elim (same_or_long MAX_RECORD_BYTES text bytes e) [
-    | inl same ↦ subst (λ (t : List ℕ). GivesRecord k t P) same h
-    | inr long ↦ let size = h.spells.size in absurd (omega (arith, long.0))
-  ]
+-- a record that was read is that of all that the input tells
+pub tree_whole : (text bytes : List ℕ) (P : SearchRecord → Type 0) → text ≡ take (MAX_RECORD_BYTES + 1) bytes
+    → GivesTree text P → GivesTree bytes P
+tree_whole text bytes P e h = elim (same_or_long MAX_RECORD_BYTES text bytes e) [
+  | inl same ↦ subst (λ (t : List ℕ). GivesTree t P) same h
+  | inr long ↦ let size = h.spells.size in absurd (omega (arith, long.0))
+]
 
-  -- and so is the first fault of a text that is none
-  text_fault_whole : (text bytes : List ℕ) (cause : RecordFault) → text ≡ take (MAX_RECORD_BYTES + 1) bytes → IsFirstTextFault k text cause → IsFirstTextFault k bytes cause
-  text_fault_whole text bytes cause e h = elim (same_or_long MAX_RECORD_BYTES text bytes e) [
-    | inl same ↦ subst (λ (t : List ℕ). IsFirstTextFault k t cause) same h
-    | inr long ↦ elim h [
-      | inl too ↦ inl (long.1, too.1)
-      | inr short ↦ let size = short.0 in absurd (omega (arith, long.0))
-    ]
+-- and so is the first fault of a text that is none
+text_fault_whole : (text bytes : List ℕ) (cause : RecordFault) → text ≡ take (MAX_RECORD_BYTES + 1) bytes
+    → IsFirstTextFault search_kind text cause → IsFirstTextFault search_kind bytes cause
+text_fault_whole text bytes cause e h = elim (same_or_long MAX_RECORD_BYTES text bytes e) [
+  | inl same ↦ subst (λ (t : List ℕ). IsFirstTextFault search_kind t cause) same h
+  | inr long ↦ elim h [
+    | inl too ↦ inl (long.1, too.1)
+    | inr short ↦ let size = short.0 in absurd (omega (arith, long.0))
   ]
+]
 
-  pub no_proof_whole : (Has : RecordOf Claim Line → RecordFault → Type 0) (text bytes : List ℕ) (fault : Fault) → text ≡ take (MAX_RECORD_BYTES + 1) bytes → IsNoProof k Has text fault → IsNoProof k Has bytes fault
-  no_proof_whole Has text bytes fault e (inl h) = inl (record { cause = h.cause; first = text_fault_whole text bytes h.cause e h.first; told = h.told })
-  no_proof_whole Has text bytes fault e (inr h) = inr (record_whole text bytes (λ shown. Tells (Has shown) fault) e h)
+pub tree_fault_whole : (p : Problem) (text bytes : List ℕ) (fault : Fault) → text ≡ take (MAX_RECORD_BYTES + 1) bytes
+    → IsTreeFault p text fault → IsTreeFault p bytes fault
+tree_fault_whole p text bytes fault e (inl h) = inl (record { cause = h.cause; first = text_fault_whole text bytes h.cause e h.first; told = h.told })
+tree_fault_whole p text bytes fault e (inr h) = inr (tree_whole text bytes (λ shown. Tells (wrongs.IsFirstFault p shown) fault) e h)
 
 -- ---- Pieces that a device gave or took, one after another.
 
 -- a front of the bytes was taken, and then a front of the rest
-pub taken_more : (old mid new : Option (List ℕ)) (bytes : List ℕ) (i n : ℕ) → Appends old mid (take i bytes) → Appends mid new (take n (drop i bytes)) → Appends old new (take (i + n) bytes)
+pub taken_more : (old mid new : Option (List ℕ)) (bytes : List ℕ) (i n : ℕ) → Appends old mid (take i bytes)
+    → Appends mid new (take n (drop i bytes)) → Appends old new (take (i + n) bytes)
 taken_more old mid new bytes i n p q = rw (take-add i n bytes) (Appends-trans old mid new (take i bytes) (take n (drop i bytes)) p q)
 
 -- what was read is a beginning of what the input told
@@ -130,7 +141,8 @@ begins : (xs text ys : List ℕ) → xs ≡ text ++ ys → take (length text) xs
 begins xs text ys p = rw p (take-append_seam text ys)
 
 -- all was read: the limit and one byte, or all there is
-pub whole_to_limit : (old new : Option (List ℕ)) (text bytes : List ℕ) (most : ℕ) → Consumes old new text → old ≡ Some bytes → length text ≡ most → text ≡ take most bytes
+whole_to_limit : (old new : Option (List ℕ)) (text bytes : List ℕ) (most : ℕ) → Consumes old new text
+    → old ≡ Some bytes → length text ≡ most → text ≡ take most bytes
 whole_to_limit None new text bytes most p e same = cc
 whole_to_limit (Some xs) None text bytes most p e same = absurd p
 whole_to_limit (Some xs) (Some ys) text bytes most p e same =
@@ -138,11 +150,47 @@ whole_to_limit (Some xs) (Some ys) text bytes most p e same =
     let is : xs ≡ bytes = cc in
     rw (same, is) at (sym front)
 
-pub whole_to_end : (old mid new : Option (List ℕ)) (text bytes : List ℕ) (most : ℕ) → Consumes old mid text → Consumes mid new [] → IsAtEnd new → old ≡ Some bytes → length text ≤ most → text ≡ take most bytes
-whole_to_end None mid new text bytes most p q end e within = cc
-whole_to_end (Some xs) None new text bytes most p q end e within = absurd p
-whole_to_end (Some xs) (Some ys) None text bytes most p q end e within = absurd q
-whole_to_end (Some xs) (Some ys) (Some zs) text bytes most p q end e within =
+whole_to_end : (old new : Option (List ℕ)) (text bytes : List ℕ) (most : ℕ) → Consumes old new text → IsAtEnd new
+    → old ≡ Some bytes → length text ≤ most → text ≡ take most bytes
+whole_to_end None new text bytes most p end e within = cc
+whole_to_end (Some xs) None text bytes most p end e within = absurd p
+whole_to_end (Some xs) (Some ys) text bytes most p end e within =
     let is : bytes ≡ xs = cc in
-    let all : bytes ≡ text = is ∙ p ∙ ap (λ (r : List ℕ). text ++ r) (q ∙ end) ∙ append-nil text in
+    let all : bytes ≡ text = is ∙ p ∙ ap (λ (r : List ℕ). text ++ r) end ∙ append-nil text in
     rw all (sym (take_all most text within))
+
+-- what was read from the beginning is what the input gave
+pub all_read : (most : ℕ) (told after : Option (List ℕ)) (text : List ℕ) → ReadsOn most [] told text after → Consumes told after text
+all_read most told after text read = subst (λ (t : List ℕ). Consumes told after t) (sym read.is) read.given
+
+-- what was read to the limit or the end is all that the input tells, up to the limit
+pub reads_whole : (most : ℕ) (told after : Option (List ℕ)) (text bytes : List ℕ) → ReadsOn most [] told text after
+    → told ≡ Some bytes → text ≡ take most bytes
+reads_whole most told after text bytes read is =
+    let given = all_read most told after text read in
+    elim read.enough [
+      | inl full ↦ whole_to_limit told after text bytes most given is full
+      | inr end ↦ whole_to_end told after text bytes most given end is read.within
+    ]
+
+-- and so is what was read on after a front of it
+pub reads_rest : (most : ℕ) (told after : Option (List ℕ)) (head text rest : List ℕ) → ReadsOn most head told text after
+    → told ≡ Some rest → text ≡ take most (head ++ rest)
+reads_rest most told after head text rest read is =
+    let later : Consumes (Some rest) after read.piece = subst (λ (o : Option (List ℕ)). Consumes o after read.piece) is read.given in
+    let all : Consumes (Some (head ++ rest)) after (head ++ read.piece) =
+    Consumes-trans (Some (head ++ rest)) (Some rest) after head read.piece refl later in
+    reads_whole most (Some (head ++ rest)) after text (head ++ rest) (record {
+      piece = text;
+      is = refl;
+      given = subst (λ (t : List ℕ). Consumes (Some (head ++ rest)) after t) (sym read.is) all;
+      within = read.within;
+      enough = read.enough;
+    }) refl
+
+-- a front was read, and the rest is left
+pub rest_left : (told after : Option (List ℕ)) (head bytes : List ℕ) → Consumes told after head → told ≡ Some bytes
+    → (rest : List ℕ) × (after ≡ Some rest) × (bytes ≡ head ++ rest)
+rest_left None after head bytes p e = cc
+rest_left (Some xs) None head bytes p e = absurd p
+rest_left (Some xs) (Some ys) head bytes p e = let same : xs ≡ bytes = cc in (ys, refl, sym same ∙ p)

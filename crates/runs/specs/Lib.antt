@@ -1,4 +1,3 @@
 pub mod Runs
 pub mod Outcome
-pub mod Faults
-pub mod LogOutcome
+pub mod Verified

@@ -7,25 +7,16 @@ use Rattle.runs.specs.declared.job.TheConstants.{ONE_WORKER}
 use Rattle.runs.specs.declared.judging.Judged.{Judged}
 use Rattle.runs.specs.declared.judging.Judged.TheVariants as judged
 use Rattle.book.specs.Steps.{AreAllowed}
-use Rattle.words.specs.declared.TheConstants.{MAX_TEXT_BYTES}
-use Rattle.record_text.specs.declared.TheConstants.{MAX_RECORD_BYTES}
 use Rattle.network.specs.Problem.{Problem, activity_count, IsProject}
 use Rattle.network.specs.Schedule.{IsFeasible}
 use Rattle.sch_reader.specs.declared.fault.SchFault.{SchFault}
 use Rattle.sch_reader.specs.Text.{Spells, IsFirstFault}
 use Rattle.schedule_check.specs.declared.fault.StartsFault.{StartsFault}
 use Rattle.schedule_check.specs.Starts.{starts_fault, starts_of}
-use Rattle.record_text.specs.Kinds as records
-use Rattle.record_text.specs.Kinds.{Kind, RecordOf}
-use Rattle.record_text.specs.Text.{search_kind}
-use Rattle.record_text.specs.TextFaults.{IsFirstTextFault}
-use Rattle.record_text.specs.declared.fault.RecordFault.{RecordFault}
-use Rattle.search_record.specs.Right as wrongs
-use Rattle.search_record.specs.Right.{search_judge}
 use Rattle.answers.specs.declared.fault.Fault.{Fault}
-use Rattle.answers.specs.Answers.{IsEarliestText, IsCheckText, IsViolationsText, IsStartedText, IsTidyText, IsProvedText}
+use Rattle.answers.specs.Answers.{IsEarliestText, IsCheckText, IsViolationsText, IsStartedText, IsTidyText}
 use Rattle.answers.specs.Outcomes.{IsUnstartedText}
-use Rattle.answers.specs.Faults.{fault_of, starts_fault_of, record_fault_of}
+use Rattle.answers.specs.Faults.{fault_of, starts_fault_of}
 
 -- ---- The jobs that a run does, and what each uses.
 
@@ -46,7 +37,6 @@ writes_record job = false
 -- whether a job reads its project from the second input, and not from the first
 abbrev pub project_is_second : Job → Bool
 project_is_second jobs.Check = true
-project_is_second jobs.Verify = true
 project_is_second job = false
 
 -- whether a job reads a second input
@@ -65,24 +55,18 @@ abbrev pub answers_json : Job → Bool
 answers_json (jobs.Solve o) = o.json
 answers_json job = false
 
--- how many bytes its first input may have: a project, starts, or a record
-abbrev pub input_limit : Job → ℕ
-input_limit jobs.Verify = MAX_RECORD_BYTES
-input_limit job = MAX_TEXT_BYTES
-
--- which inputs a run reads: how many bytes the first may have, whether there is a second, and whether that has the project
+-- which inputs a run reads: whether there is a second, and whether that has the project
 pub record Inputs : Type 0 where
-  pub limit : ℕ
   pub second : Bool
   pub project_second : Bool
 
 -- those of a job
 abbrev pub inputs_of : Job → Inputs
-inputs_of job = record { limit = input_limit job; second = reads_second job; project_second = project_is_second job }
+inputs_of job = record { second = reads_second job; project_second = project_is_second job }
 
 -- those of a search: a project, and starts where these are handed in
 abbrev pub search_inputs : Bool → Inputs
-search_inputs start = record { limit = MAX_TEXT_BYTES; second = start; project_second = false }
+search_inputs start = record { second = start; project_second = false }
 
 -- the text spells a project, which has this property
 pub record SpellsOne (text : List ℕ) (P : Problem → Type 0) : Type 0 where
@@ -118,24 +102,6 @@ pub record IsFirstStartsFault (p : Problem) (text : List ℕ) (fault : Fault) : 
   pub first : starts_fault (activity_count p) text ≡ Some cause
   pub told : fault ≡ starts_fault_of cause
 
--- the text is that of a record of this kind, which has this property
-pub record GivesRecord
-    {Claim Line : Type 0} (k : Kind Claim Line) (text : List ℕ) (P : RecordOf Claim Line → Type 0) : Type 0 where
-  pub shown : RecordOf Claim Line
-  pub spells : records.Spells k text shown
-  pub has : P shown
-
--- a record or its text has this fault, which is told
-pub record Tells (Has : RecordFault → Type 0) (fault : Fault) : Type 0 where
-  pub cause : RecordFault
-  pub first : Has cause
-  pub told : fault ≡ record_fault_of cause
-
--- why a text proves nothing: its first fault, if it is that of no record of this kind, or the record's
-abbrev pub IsNoProof :
-    {Claim Line : Type 0} → Kind Claim Line → (RecordOf Claim Line → RecordFault → Type 0) → List ℕ → Fault → Type 0
-IsNoProof k Has text fault = Tells (IsFirstTextFault k text) fault ⊎ GivesRecord k text (λ shown. Tells (Has shown) fault)
-
 -- what a search writes for a project, and for starts where these are handed in
 abbrev pub IsSearchAnswer : Bool → Bool → ℕ → Bool → List ℕ → List ℕ → ℕ → List ℕ → Type 0
 IsSearchAnswer false by_workers nodes json text second exit written =
@@ -150,8 +116,6 @@ IsAnswer (jobs.Solve o) text second exit written =
     IsSearchAnswer o.start (is_some o.workers || o.recorded) o.nodes o.json text second exit written
 IsAnswer jobs.Check text second exit written = SpellsOne second (λ p. GivesStarts p text (λ starts. IsCheckText p starts exit written))
 IsAnswer jobs.Tidy text second exit written = SpellsOne text (λ p. IsTidyText p exit written)
-IsAnswer jobs.Verify text second exit written =
-    SpellsOne second (λ p. GivesRecord search_kind text (λ shown. (exit ≡ 0) × IsProvedText search_kind search_judge p shown written))
 
 -- why a search has no answer
 abbrev pub IsSearchRefusal : Bool → List ℕ → List ℕ → Fault → Type 0
@@ -162,7 +126,6 @@ IsSearchRefusal true text second fault = HasFault text fault ⊎ SpellsOne text 
 abbrev pub IsRefusal : Job → List ℕ → List ℕ → Fault → Type 0
 IsRefusal (jobs.Solve o) text second fault = IsSearchRefusal o.start text second fault
 IsRefusal jobs.Check text second fault = HasFault second fault ⊎ SpellsOne second (λ p. IsFirstStartsFault p text fault)
-IsRefusal jobs.Verify text second fault = HasFault second fault ⊎ SpellsOne second (λ p. IsNoProof search_kind (wrongs.IsFirstFault p) text fault)
 IsRefusal job text second fault = HasFault text fault
 
 -- a search has run: the text spells a project, and starts that were handed in are a feasible schedule of it

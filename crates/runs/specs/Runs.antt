@@ -1,11 +1,13 @@
 -- The story of a run: what it reads of its inputs, what it replies, and what it writes to its outputs.
-use Rattle.std.specs.Prelude.{◌≡◌, ℕ, ◌+◌, ◌≤◌, List, [], length, take, Option, Some, None, ◌⊎◌, ◌≢◌, ◌↔◌, true, false, IsSome, IsSomeAnd, IfSome, MatchOption}
-use Rattle.std.specs.Io.KnownBytes.{Appends, Consumes}
+use Rattle.std.specs.Prelude.{◌≡◌, ℕ, ◌+◌, ◌≤◌, ◌++◌, List, [], length, take, Option, Some, None, ◌⊎◌, ◌≢◌, ◌↔◌, true, false}
+use Rattle.std.specs.Prelude.{IsSome, IsSomeAnd, IfSome, MatchOption}
+use Rattle.std.specs.Io.KnownBytes.{Appends, Consumes, IsAtEnd}
 use Rattle.words.specs.declared.TheConstants.{MAX_TEXT_BYTES}
 use Rattle.answers.specs.declared.fault.Fault.{Fault}
 use Rattle.answers.specs.Faults.{exit_of, IsSearchFault}
 use Rattle.answers.specs.Outcomes.{IsRightRecord}
-use Rattle.runs.specs.Outcome.{answers_json, has_workers, reads_second, writes_record, IfTextsKnown, Inputs, IsAnswer, IsRefusal, IsSearched, SpellsNone, SpellsOne, Job}
+use Rattle.runs.specs.Outcome.{answers_json, has_workers, reads_second, writes_record, IfTextsKnown, Inputs, IsAnswer}
+use Rattle.runs.specs.Outcome.{IsRefusal, IsSearched, SpellsNone, SpellsOne, Job}
 
 -- ---- What an input gave and an output took, and the failures that they count.
 
@@ -42,6 +44,18 @@ pub record GaveUpTo {D : Type 0} (most : ℕ) (input : Span D) : Type 0 where
   pub front : List ℕ
   pub given : Consumes input.told input.told_after front
   pub within : length front ≤ most
+
+-- or some bytes, without a limit
+abbrev pub GaveSome : {D : Type 0} → Span D → Type 0
+GaveSome input = (front : List ℕ) × Consumes input.told input.told_after front
+
+-- a text went on with what an input gave, until it had so many bytes or the input ended
+pub record ReadsOn (most : ℕ) (text : List ℕ) (told : Option (List ℕ)) (more : List ℕ) (told_after : Option (List ℕ)) : Type 0 where
+  pub piece : List ℕ
+  pub is : more ≡ text ++ piece
+  pub given : Consumes told told_after piece
+  pub within : length more ≤ most
+  pub enough : (length more ≡ most) ⊎ IsAtEnd told_after
 
 -- an output took these bytes
 abbrev pub TookAll : {D : Type 0} → Span D → List ℕ → Type 0
@@ -98,17 +112,24 @@ pub record TellsNoProject (told : Option (List ℕ)) : Type 0 where
 abbrev pub GaveNoProject : {D : Type 0} → Span D → Type 0
 GaveNoProject input = ¬ NeverFailed input ⊎ TellsNoProject input.told
 
--- no more than so many bytes of the first input are read, and one more that shows that there are more; of the second no
--- more than of a project's text; and one of them failed exactly where this is so
-pub record HasReadUpTo {I S : Type 0} (most : ℕ) (Failed : Type 0) (first : Span I) (second : Span S) : Type 0 where
-  pub within : GaveUpTo (most + 1) first
+-- of each input no more bytes are read than a text may have, and one more that shows that there are more; and one of them
+-- failed exactly where this is so
+pub record HasReadTexts {I S : Type 0} (Failed : Type 0) (first : Span I) (second : Span S) : Type 0 where
+  pub within : GaveUpTo (MAX_TEXT_BYTES + 1) first
+  pub second_within : GaveUpTo (MAX_TEXT_BYTES + 1) second
+  pub failed : OneFailedWhere Failed first second
+
+-- some of the first input is read, of the second no more than of a project's text, and one of them failed exactly where
+-- this is so
+pub record HasReadRecord {I S : Type 0} (Failed : Type 0) (first : Span I) (second : Span S) : Type 0 where
+  pub given : GaveSome first
   pub second_within : GaveUpTo (MAX_TEXT_BYTES + 1) second
   pub failed : OneFailedWhere Failed first second
 
 -- What a run reads of its two inputs. A second input that it doesn't use is left alone. The project is read and judged
--- first: where there is none, starts or a record on the other input are left alone.
+-- first: where there is none, starts on the other input are left alone.
 pub record HasRead {I S : Type 0} (reads : Inputs) (Failed : Type 0) (first : Span I) (second : Span S) : Type 0 where
-  pub inputs : HasReadUpTo reads.limit Failed first second
+  pub inputs : HasReadTexts Failed first second
   pub unused : reads.second ≡ false → IsUntouched second
   pub project_second : reads.project_second ≡ true → GaveNoProject second → IsUntouched first
   pub project_first : reads.project_second ≡ false → GaveNoProject first → IsUntouched second

@@ -30,8 +30,6 @@ pub enum Job {
     Check,
     /// Print the canonical text of a project.
     Tidy,
-    /// Say what the record on standard input proves of a project in a file.
-    Verify,
 }
 
 impl Job {

@@ -11,11 +11,8 @@ use crate::device::{Failed, Input, Output, write_all};
 use crate::job::Job;
 use crate::jobs::{check, earliest, solve, tidy};
 use crate::reading::{read_both, read_project};
-use crate::verified::verified;
 use answers::{Answer, Fault};
-use record_text::MAX_RECORD_BYTES;
 use std::alloc::Global;
-use words::MAX_TEXT_BYTES;
 
 /// How a run ended: the exit status, and the fault that is printed, if any.
 #[derive(Clone, Copy, Debug, PartialEq, Eq)]
@@ -41,7 +38,7 @@ impl Ended {
 }
 
 /// The answer of a job without workers to what its inputs hold. A project is read and judged before
-/// starts or a record are read.
+/// starts are read.
 fn job_answer<I: Input, S: Input>(
     alloc: Global,
     job: Job,
@@ -70,16 +67,12 @@ fn job_answer<I: Input, S: Input>(
             Ok(solve(alloc, project, options.nodes, options.json)?)
         }
         Job::Check => {
-            let (project, starts) = read_both(alloc, MAX_TEXT_BYTES, input, second)?;
+            let (project, starts) = read_both(alloc, input, second)?;
             check(alloc, project, &starts)
         }
         Job::Tidy => {
             let project = read_project(alloc, input)?;
             tidy(alloc, &project)
-        }
-        Job::Verify => {
-            let (project, text) = read_both(alloc, MAX_RECORD_BYTES, input, second)?;
-            verified(alloc, &project, &text)
         }
     }
 }

@@ -1,11 +1,11 @@
 //! What of a log is checked, and the line that says what it shows.
 
 ghost use Rattle.std.specs.Prelude.{◌≡◌, IfOk, string_bytes};
-ghost use Rattle.runs.specs.LogOutcome.{line_of, part_in};
+ghost use Rattle.runs.specs.Verified.{line_of, part_in};
 
 use answers::proved_text;
 use lemma_record::LogPart;
-use record_text::Proved;
+use network::Verdict;
 use std::alloc::{AllocError, Global};
 use std::fmt::Write;
 
@@ -33,7 +33,7 @@ impl Scope {
     }
 
     /// The line of what is shown.
-    pub(crate) fn line(&self, alloc: Global, shown: Proved) -> Result<String, AllocError>
+    pub(crate) fn line(&self, alloc: Global, shown: Verdict) -> Result<String, AllocError>
         ensures { IfOk result (λ line. string_bytes line ≡ line_of self.now shown) }
     {
         let text = proved_text(alloc, shown)?;

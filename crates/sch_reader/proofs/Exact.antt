@@ -1,5 +1,6 @@
 -- The exact faults of the reader, from the law that the layout leads to flat lists of projects alone.
-use Rattle.std.proofs.Common.{◌≡◌, ℕ, ◌+◌, ◌≤◌, true, List, [], ◌∷◌, ◌++◌, length, ℤ, Result, Ok, Err, refl, sym, ap, subst, ◌∙◌, append_assoc, inl, inr, arith, append-nil}
+use Rattle.std.proofs.Common.{◌≡◌, ℕ, ◌+◌, ◌≤◌, true, List, [], ◌∷◌, ◌++◌, length, ℤ, Result, Ok, Err, refl, sym, ap}
+use Rattle.std.proofs.Common.{subst, ◌∙◌, append_assoc, inl, inr, arith, append-nil}
 use Rattle.sch_reader.specs.declared.fault.SchFault.TheVariants as faults
 use Rattle.sch_reader.specs.Text.{text_words, flat, Spell, Spells, BeginsProject, IsWholeProject, IsFirstWordFault, IsFirstFault}
 use Rattle.words.specs.declared.TheConstants.{MAX_TEXT_BYTES}
@@ -28,16 +29,27 @@ not_whole law zs here next h w =
     let same : place here next ≡ done w.0 = Reaches-rest project_text (place here next) (done w.0) zs [] h at in
     absurd cc
 
-fits_there : IsExact → (zs : List ℤ) (here : Place) (next : ℤ → Layout Problem) (z : ℤ) → Reaches project_text zs (place here next) → BeginsProject (zs ++ z ∷ []) → fits here z ≡ true
+fits_there : IsExact → (zs : List ℤ) (here : Place) (next : ℤ → Layout Problem) (z : ℤ)
+    → Reaches project_text zs (place here next) → BeginsProject (zs ++ z ∷ []) → fits here z ≡ true
 fits_there law zs here next z h b =
-    let g : Reaches project_text (zs ++ (z ∷ b.1)) (done b.0) = subst (λ (v : List ℤ). Reaches project_text v (done b.0)) (b.3 ∙ append_assoc zs (z ∷ []) b.1) (law.again b.0 b.2) in
+    let g : Reaches project_text (zs ++ (z ∷ b.1)) (done b.0) =
+    subst (λ (v : List ℤ). Reaches project_text v (done b.0)) (b.3 ∙ append_assoc zs (z ∷ []) b.1)
+    (law.again b.0 b.2) in
     (Reaches-rest project_text (place here next) (done b.0) zs (z ∷ b.1) h g).0
 
-stopped_is : IsExact → (text : List (List ℕ)) (e : SchFault) (s : Stopped project_text 0 text e) → StopsAt s.here (0 + length s.front) s.back e → IsFirstWordFault text e
+stopped_is : IsExact → (text : List (List ℕ)) (e : SchFault) (s : Stopped project_text 0 text e)
+    → StopsAt s.here (0 + length s.front) s.back e → IsFirstWordFault text e
 stopped_is law text e s (ends none is) =
     let all : text ≡ s.front = s.parts ∙ ap (λ (r : List (List ℕ)). s.front ++ r) none ∙ append-nil s.front in
     let len : 0 + length s.front ≡ length text = omega (arith, ap length all) in
-    inl (record { numbers = s.numbers; spelled = subst (λ (t : List (List ℕ)). Spell t s.numbers) (sym all) s.spelled; begins = begins_at law s.numbers s.here s.next s.reached; more = not_whole law s.numbers s.here s.next s.reached; fault_is = is ∙ ap (λ (i : ℕ). faults.Short i) len })
+    inl (record {
+      numbers = s.numbers;
+      spelled = subst (λ (t : List (List ℕ)). Spell t s.numbers) (sym all) s.spelled;
+      begins = begins_at law s.numbers s.here s.next s.reached;
+      more =
+          not_whole law s.numbers s.here s.next s.reached;
+      fault_is = is ∙ ap (λ (i : ℕ). faults.Short i) len;
+    })
 stopped_is law text e s (stops w more back refuses is) =
     let len : 0 + length s.front ≡ length s.front = omega arith in
     inr (inr (record {
@@ -54,18 +66,32 @@ stopped_is law text e s (stops w more back refuses is) =
       fault_is = rw len at is;
     }))
 
-after_all : IsExact → (text : List (List ℕ)) (e : SchFault) (p : Problem) (c : Cursor) (rest : List (List ℕ)) → c.rest ≡ rest → WasRead project_text 0 text p c → ended p c.index rest ≡ Err e → IsFirstWordFault text e
+after_all : IsExact → (text : List (List ℕ)) (e : SchFault) (p : Problem) (c : Cursor) (rest : List (List ℕ))
+    → c.rest ≡ rest → WasRead project_text 0 text p c → ended p c.index rest ≡ Err e → IsFirstWordFault text e
 after_all law text e p c [] is r h = absurd cc
 after_all law text e p c (w ∷ more) is r h =
     let f = law.found r.numbers p r.reached in
     let len : c.index ≡ length r.front = omega (arith, r.index_is) in
     let e_is : e ≡ faults.Trailing c.index = cc in
-    inr (inl (record { front = r.front; word = w; rest = more; numbers = r.numbers; parts = r.parts ∙ ap (λ (q : List (List ℕ)). r.front ++ q) is; spelled = r.spelled; whole = (p, f.0, f.1); fault_is = e_is ∙ ap (λ (i : ℕ). faults.Trailing i) len }))
+    inr (inl (record {
+      front = r.front;
+      word = w;
+      rest = more;
+      numbers = r.numbers;
+      parts = r.parts
+          ∙ ap (λ (q : List (List ℕ)). r.front ++ q) is;
+      spelled = r.spelled;
+      whole = (p, f.0, f.1);
+      fault_is = e_is
+          ∙ ap (λ (i : ℕ). faults.Trailing i) len;
+    }))
 
 abbrev pub start : List (List ℕ) → Cursor
 start text = record { index = 0; rest = text }
 
-by_reading : IsExact → (text : List (List ℕ)) (e : SchFault) (r : Result (Problem × Cursor) SchFault) → reading project_text (start text) ≡ r → (r >>= λ x. ended x.0 x.1.index x.1.rest) ≡ Err e → IsFirstWordFault text e
+by_reading : IsExact → (text : List (List ℕ)) (e : SchFault) (r : Result (Problem × Cursor) SchFault)
+    → reading project_text (start text) ≡ r → (r >>= λ x. ended x.0 x.1.index x.1.rest) ≡ Err e
+    → IsFirstWordFault text e
 by_reading law text e (Ok x) is h = after_all law text e x.0 x.1 x.1.rest refl (reading_was project_text 0 text x.0 x.1 is) h
 by_reading law text e (Err d) is h =
     let same : d ≡ e = cc in
@@ -82,5 +108,7 @@ pub spelled_is_read : IsExact → (text : List ℕ) (p : Problem) → IsProject 
 unfolding whole_reading
 spelled_is_read law text p fit s =
     let again = reading_again project_text p (flat p) 0 (text_words text) [] (law.again p fit) s.spelled in
-    let read : reading project_text (start (text_words text)) ≡ Ok (p, record { index = 0 + length (text_words text); rest = [] }) = ap (λ (ws : List (List ℕ)). reading project_text (start ws)) (sym (append-nil (text_words text))) ∙ again in
+    let read : reading project_text (start (text_words text)) ≡ Ok
+    (p, record { index = 0 + length (text_words text); rest = [] }) =
+    ap (λ (ws : List (List ℕ)). reading project_text (start ws)) (sym (append-nil (text_words text))) ∙ again in
     rw read refl

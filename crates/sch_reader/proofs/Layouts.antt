@@ -21,7 +21,8 @@ Reaches-rest l m k [] ys h g = subst (λ (j : Layout _). Reaches j ys k) h g
 Reaches-rest (done x) m k (z ∷ xs) ys h g = absurd h
 Reaches-rest (place p next) m k (z ∷ xs) ys h g = Reaches-rest (next z) m k xs ys h.1 g.1
 
-pub Reaches-bind : {A B : Type 0} (l : Layout A) (f : A → Layout B) (m : Layout B) (x : A) (xs ys : List ℤ) → Reaches l xs (done x) → Reaches (f x) ys m → Reaches (l >>= f) (xs ++ ys) m
+pub Reaches-bind : {A B : Type 0} (l : Layout A) (f : A → Layout B) (m : Layout B) (x : A) (xs ys : List ℤ)
+    → Reaches l xs (done x) → Reaches (f x) ys m → Reaches (l >>= f) (xs ++ ys) m
 Reaches-bind l f m x [] ys h g = subst (λ (j : Layout _). Reaches (j >>= f) ys m) (sym h) g
 Reaches-bind (done y) f m x (z ∷ xs) ys h g = absurd h
 Reaches-bind (place p next) f m x (z ∷ xs) ys h g = (h.0, Reaches-bind (next z) f m x xs ys h.1 g)
@@ -40,7 +41,14 @@ through (done x) f zs y h = record { first = []; second = zs; value = x; parts =
 through (place p next) f [] y h = absurd cc
 through (place p next) f (z ∷ zs) y h =
     let t = through (next z) f zs y h.1 in
-    record { first = z ∷ t.first; second = t.second; value = t.value; parts = ap (λ (r : List ℤ). z ∷ r) t.parts; to_value = (h.0, t.to_value); after = t.after }
+    record {
+      first = z ∷ t.first;
+      second = t.second;
+      value = t.value;
+      parts = ap (λ (r : List ℤ). z ∷ r) t.parts;
+      to_value = (h.0, t.to_value);
+      after = t.after;
+    }
 
 -- a number that fits
 filler : Place → ℤ

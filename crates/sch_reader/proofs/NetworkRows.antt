@@ -1,5 +1,7 @@
 -- What the layout of the network rows leads to.
-use Rattle.std.proofs.Common.{◌≡◌, ℕ, zero, suc, true, List, [], ◌∷◌, ◌++◌, length, ℤ, refl, ap, subst, ◌+◌, ◌-◌, ◌≤◌, ◌<◌, eqb, map, pos, nat_abs, sym, ◌∙◌, append_assoc, arith, Bool, false, take, drop, eq-eqb, ne_eqb, eqb-true, neg_ℤ}
+use Rattle.std.proofs.Common.{◌≡◌, ℕ, zero, suc, true, List, [], ◌∷◌, ◌++◌, length, ℤ, refl, ap, subst, ◌+◌, ◌-◌, ◌≤◌}
+use Rattle.std.proofs.Common.{◌<◌, eqb, map, pos, nat_abs, sym, ◌∙◌, append_assoc, arith, Bool, false, take, drop}
+use Rattle.std.proofs.Common.{eq-eqb, ne_eqb, eqb-true, neg_ℤ}
 use Rattle.std.specs.List.{AllByRecursion, All, AllPairs, prefix_len}
 use Rattle.std.proofs.lemmas.List.{append-nil, length-append, length-map}
 use Rattle.sch_reader.specs.Layout.{Layout, done, place, fits, row_of, ◌>>=◌, lags_to, network_row, network_rows, Place}
@@ -60,7 +62,8 @@ row_found (suc n) p zs xs h =
     let b = through (row_of n p) (λ others. done (a.number ∷ others)) a.rest xs a.after in
     let ih = row_found n p b.first b.value b.to_value in
     let e = finished (a.number ∷ b.value) xs b.second b.after in
-    let same : zs ≡ a.number ∷ b.value = next_is zs a.rest b.value a.number a.number a.parts refl (alone_is a.rest b.first b.second b.value b.parts e.0 ih.same) in
+    let same : zs ≡ a.number ∷ b.value = next_is zs a.rest b.value a.number a.number a.parts refl
+    (alone_is a.rest b.first b.second b.value b.parts e.0 ih.same) in
     subst (λ (v : List ℤ). RowFound (suc n) p zs v) e.1 (record { same = same; len = ap suc ih.len; fit = (a.fit, ih.fit) })
 
 pub row_again : (p : Place) (xs : List ℤ) → AllByRecursion (λ z. fits p z ≡ true) xs → Reaches (row_of (length xs) p) xs (done xs)
@@ -91,7 +94,9 @@ pub record LagsFound (row last : ℕ) (ends zs : List ℤ) (lags : List Lag) : T
 abbrev pub lag_of : ℕ → ℤ → ℤ → Lag
 lag_of from end weight = record { from = from; to = nat_abs end; weight = weight }
 
-lags_found : (row last : ℕ) (ends zs : List ℤ) (lags : List Lag) → AllByRecursion (λ z. fits (places.Successor row last) z ≡ true) ends → Reaches (lags_to row ends) zs (done lags) → LagsFound row last ends zs lags
+lags_found : (row last : ℕ) (ends zs : List ℤ) (lags : List Lag)
+    → AllByRecursion (λ z. fits (places.Successor row last) z ≡ true) ends → Reaches (lags_to row ends) zs (done lags)
+    → LagsFound row last ends zs lags
 unfolding lags_to
 lags_found row last [] zs lags fit h =
     let f = finished [] lags zs h in
@@ -104,9 +109,15 @@ lags_found row last (e ∷ ends) zs lags fit h =
     let rest : a.rest ≡ map (λ a. a.weight) b.value = alone_is a.rest b.first b.second (map (λ a. a.weight) b.value) b.parts f.0 ih.weights in
     let n = up_to last e fit.0 in
     let light = within (neg_ℤ MAX_LAG_WEIGHT) MAX_LAG_WEIGHT a.number a.fit in
-    let to_ends : pos (nat_abs e) ∷ map (λ a. pos a.to) b.value ≡ e ∷ ends = ap (λ (r : List ℤ). pos (nat_abs e) ∷ r) ih.to_ends ∙ ap (λ (x : ℤ). x ∷ ends) (sym n.0) in
+    let to_ends : pos (nat_abs e) ∷ map (λ a. pos a.to) b.value ≡ e ∷ ends =
+    ap (λ (r : List ℤ). pos (nat_abs e) ∷ r) ih.to_ends ∙ ap (λ (x : ℤ). x ∷ ends) (sym n.0) in
     subst (λ (v : List Lag). LagsFound row last (e ∷ ends) zs v) f.1
-    (record { weights = next_is zs a.rest (map (λ a. a.weight) b.value) a.number a.number a.parts refl rest; to_ends = to_ends; each = (record { from = refl; to = n.1; light = light }, ih.each) })
+    (record {
+      weights = next_is zs a.rest (map (λ a. a.weight) b.value) a.number a.number a.parts refl rest;
+      to_ends =
+          to_ends;
+      each = (record { from = refl; to = n.1; light = light }, ih.each);
+    })
 
 abbrev pub row_numbers : ℕ → List Lag → List ℤ
 row_numbers row own = pos row ∷ pos 1 ∷ pos (length own) ∷ (map (λ a. pos a.to) own ++ map (λ a. a.weight) own)
@@ -130,9 +141,11 @@ network_row_found last left row zs lags h =
     let numbers : count.number ≡ pos (length lags) = c.0 ∙ ap pos (sym len) in
     let rest : count.rest ≡ map (λ a. pos a.to) lags ++ map (λ a. a.weight) lags =
     joined_is count.rest ends.first ends.second (map (λ a. pos a.to) lags) (map (λ a. a.weight) lags) ends.parts (r.same ∙ sym l.to_ends) l.weights in
-    let from_count : mode.rest ≡ pos (length lags) ∷ (map (λ a. pos a.to) lags ++ map (λ a. a.weight) lags) = next_is mode.rest count.rest _ count.number (pos (length lags)) count.parts numbers rest in
+    let from_count : mode.rest ≡ pos (length lags) ∷ (map (λ a. pos a.to) lags ++ map (λ a. a.weight) lags) =
+    next_is mode.rest count.rest _ count.number (pos (length lags)) count.parts numbers rest in
     record {
-      same = next_is zs id.rest _ id.number (pos row) id.parts (exactly row id.number id.fit) (next_is id.rest mode.rest _ mode.number (pos 1) mode.parts (exactly 1 mode.number mode.fit) from_count);
+      same = next_is zs id.rest _ id.number (pos row) id.parts (exactly row id.number id.fit)
+          (next_is id.rest mode.rest _ mode.number (pos 1) mode.parts (exactly 1 mode.number mode.fit) from_count);
       few = omega (arith, c.1, len);
       each = l.each;
     }
@@ -151,16 +164,22 @@ pub later_gone : (row i : ℕ) (others : List Lag) → row < i → AreInOrder i 
 later_gone row i [] lt h = refl
 later_gone row i (a ∷ others) lt h = rw (ne_eqb a.from row (λ e. absurd (omega (arith, e, h.0)))) (later_gone row a.from others (omega (arith, h.0)) h.1)
 
-pub skipped : (rows i row last : ℕ) (own others : List Lag) → row < i → AllByRecursion (RowLag row last) own → network_numbers rows i (own ++ others) ≡ network_numbers rows i others
+pub skipped : (rows i row last : ℕ) (own others : List Lag) → row < i → AllByRecursion (RowLag row last) own
+    → network_numbers rows i (own ++ others) ≡ network_numbers rows i others
 skipped zero i row last own others lt h = refl
 skipped (suc rows) i row last own others lt h =
-    let here : lags_from i (own ++ others) ≡ lags_from i others = filter-append (λ a. eqb a.from i) own others ∙ ap (λ (r : List Lag). r ++ lags_from i others) (gone i row last own lt h) in
+    let here : lags_from i (own ++ others) ≡ lags_from i others = filter-append (λ a. eqb a.from i) own others
+    ∙ ap (λ (r : List Lag). r ++ lags_from i others) (gone i row last own lt h) in
     rw (here, skipped rows (i + 1) row last own others (omega arith) h) refl
 
 in_order : (row last : ℕ) (own others : List Lag) → AllByRecursion (RowLag row last) own → AreInOrder (row + 1) others → AreInOrder row (own ++ others)
 in_order row last [] [] h g = tt
 in_order row last [] (a ∷ others) h g = (omega (arith, g.0), g.1)
-in_order row last (a ∷ own) others h g = (omega (arith, h.0.from), subst (λ (r : ℕ). AreInOrder r (own ++ others)) (sym h.0.from) (in_order row last own others h.1 g))
+in_order row last (a ∷ own) others h g = (
+  omega (arith, h.0.from),
+  subst (λ (r : ℕ). AreInOrder r (own ++ others)) (sym h.0.from)
+      (in_order row last own others h.1 g),
+)
 
 -- an arc that leads from an activity below this one
 abbrev pub IsEnd : ℕ → ℕ → Lag → Type 0
@@ -178,7 +197,8 @@ both_ends row last rows [] [] h g = tt
 both_ends row last rows [] (a ∷ others) h g = ((g.0.0, omega (arith, g.0.1), g.0.2), both_ends row last rows [] others tt g.1)
 both_ends row last rows (a ∷ own) others h g = ((h.0.to, omega (arith, h.0.from), h.0.light), both_ends row last rows own others h.1 g)
 
-pub network_rows_found : (rows last left row : ℕ) (zs : List ℤ) (lags : List Lag) → Reaches (network_rows rows last left row) zs (done lags) → RowsFound rows last left row zs lags
+pub network_rows_found : (rows last left row : ℕ) (zs : List ℤ) (lags : List Lag)
+    → Reaches (network_rows rows last left row) zs (done lags) → RowsFound rows last left row zs lags
 unfolding network_rows
 network_rows_found zero last left row zs lags h =
     let f = finished [] lags zs h in
@@ -189,48 +209,79 @@ network_rows_found (suc rows) last left row zs lags h =
     let own = network_row_found last left row a.first a.value a.to_value in
     let ih = network_rows_found rows last (left - length a.value) (row + 1) b.first b.value b.to_value in
     let f = finished (a.value ++ b.value) lags b.second b.after in
-    let after : a.second ≡ network_numbers rows (row + 1) b.value = alone_is a.second b.first b.second (network_numbers rows (row + 1) b.value) b.parts f.0 ih.same in
-    let here : lags_from row (a.value ++ b.value) ≡ a.value = filter-append (λ a. eqb a.from row) a.value b.value ∙ ap (λ (r : List Lag). r ++ lags_from row b.value) (kept row last a.value own.each) ∙ ap (λ (r : List Lag). a.value ++ r) (later_gone row (row + 1) b.value (omega arith) ih.order) ∙ append-nil a.value in
-    let rest : network_numbers rows (row + 1) (a.value ++ b.value) ≡ a.second = skipped rows (row + 1) row last a.value b.value (omega arith) own.each ∙ sym after in
-    let regroup : row_numbers row a.value ++ a.second ≡ pos row ∷ pos 1 ∷ pos (length a.value) ∷ (map (λ a. pos a.to) a.value ++ (map (λ a. a.weight) a.value ++ a.second)) = ap (λ (r : List ℤ). pos row ∷ pos 1 ∷ pos (length a.value) ∷ r) (append_assoc (map (λ a. pos a.to) a.value) (map (λ a. a.weight) a.value) a.second) in
-    let same : zs ≡ network_numbers (suc rows) row (a.value ++ b.value) = a.parts ∙ ap (λ (r : List ℤ). r ++ a.second) own.same ∙ regroup ∙ sym (rw (here, rest) refl) in
+    let after : a.second ≡ network_numbers rows (row + 1) b.value =
+    alone_is a.second b.first b.second (network_numbers rows (row + 1) b.value) b.parts f.0 ih.same in
+    let here : lags_from row (a.value ++ b.value) ≡ a.value = filter-append (λ a. eqb a.from row) a.value b.value
+    ∙ ap (λ (r : List Lag). r ++ lags_from row b.value) (kept row last a.value own.each)
+    ∙ ap (λ (r : List Lag). a.value ++ r) (later_gone row (row + 1) b.value (omega arith) ih.order)
+    ∙ append-nil a.value in
+    let rest : network_numbers rows (row + 1) (a.value ++ b.value) ≡ a.second =
+    skipped rows (row + 1) row last a.value b.value (omega arith) own.each ∙ sym after in
+    let regroup : row_numbers row a.value ++ a.second ≡ pos row ∷ pos 1 ∷ pos (length a.value) ∷
+    (map (λ a. pos a.to) a.value ++ (map (λ a. a.weight) a.value ++ a.second)) =
+    ap (λ (r : List ℤ). pos row ∷ pos 1 ∷ pos (length a.value) ∷ r)
+    (append_assoc (map (λ a. pos a.to) a.value) (map (λ a. a.weight) a.value) a.second) in
+    let same : zs ≡ network_numbers (suc rows) row (a.value ++ b.value) = a.parts
+    ∙ ap (λ (r : List ℤ). r ++ a.second) own.same ∙ regroup ∙ sym (rw (here, rest) refl) in
     subst (λ (v : List Lag). RowsFound (suc rows) last left row zs v) f.1
-    (record { same = same; few = omega (arith, own.few, ih.few, length-append a.value b.value); order = in_order row last a.value b.value own.each ih.order; ends = both_ends row last rows a.value b.value own.each ih.ends })
+    (record {
+      same = same;
+      few = omega (arith, own.few, ih.few, length-append a.value b.value);
+      order =
+          in_order row last a.value b.value own.each ih.order;
+      ends =
+          both_ends row last rows a.value b.value own.each ih.ends;
+    })
 
 -- ---- The numbers of the network rows lead the layout to their end.
 
 -- a layout, and then what is made of its value
-pub Reaches-made : {A B : Type 0} (l : Layout A) (make : A → B) (x : A) (xs : List ℤ) → Reaches l xs (done x) → Reaches (l >>= λ v. done (make v)) xs (done (make x))
-Reaches-made l make x xs h = subst (λ (r : List ℤ). Reaches (l >>= λ v. done (make v)) r (done (make x))) (append-nil xs) (Reaches-bind l (λ v. done (make v)) (done (make x)) x xs [] h refl)
+pub Reaches-made : {A B : Type 0} (l : Layout A) (make : A → B) (x : A) (xs : List ℤ) → Reaches l xs (done x)
+    → Reaches (l >>= λ v. done (make v)) xs (done (make x))
+Reaches-made l make x xs h = subst (λ (r : List ℤ). Reaches (l >>= λ v. done (make v)) r (done (make x)))
+    (append-nil xs) (Reaches-bind l (λ v. done (make v)) (done (make x)) x xs [] h refl)
 
 same_lag : (row last : ℕ) (a : Lag) → RowLag row last a → lag_of row (pos a.to) a.weight ≡ a
 same_lag row last a h = ap (λ (i : ℕ). record { from = i; to = a.to; weight = a.weight }) (sym h.from)
 
-lags_again : (row last : ℕ) (lags : List Lag) → AllByRecursion (RowLag row last) lags → Reaches (lags_to row (map (λ a. pos a.to) lags)) (map (λ a. a.weight) lags) (done lags)
+lags_again : (row last : ℕ) (lags : List Lag) → AllByRecursion (RowLag row last) lags
+    → Reaches (lags_to row (map (λ a. pos a.to) lags)) (map (λ a. a.weight) lags) (done lags)
 unfolding lags_to
 lags_again row last [] h = refl
 lags_again row last (a ∷ lags) h = (
   is_between_from (neg_ℤ MAX_LAG_WEIGHT) MAX_LAG_WEIGHT a.weight h.0.light.at_least h.0.light.at_most,
-  subst (λ (b : Lag). Reaches (lags_to row (map (λ a. pos a.to) lags) >>= λ others. done (lag_of row (pos a.to) a.weight ∷ others)) (map (λ a. a.weight) lags) (done (b ∷ lags))) (same_lag row last a h.0)
-      (Reaches-made (lags_to row (map (λ a. pos a.to) lags)) (λ others. lag_of row (pos a.to) a.weight ∷ others) lags (map (λ a. a.weight) lags) (lags_again row last lags h.1)),
+  subst (λ (b : Lag). Reaches (lags_to row (map (λ a. pos a.to) lags) >>= λ others.
+      done (lag_of row (pos a.to) a.weight ∷ others)) (map (λ a. a.weight) lags) (done (b ∷ lags)))
+      (same_lag row last a h.0)
+      (Reaches-made (lags_to row (map (λ a. pos a.to) lags)) (λ others. lag_of row (pos a.to) a.weight ∷ others) lags
+      (map (λ a. a.weight) lags) (lags_again row last lags h.1)),
 )
 
-ends_fit : (row last : ℕ) (lags : List Lag) → AllByRecursion (RowLag row last) lags → AllByRecursion (λ z. fits (places.Successor row last) z ≡ true) (map (λ a. pos a.to) lags)
+ends_fit : (row last : ℕ) (lags : List Lag) → AllByRecursion (RowLag row last) lags
+    → AllByRecursion (λ z. fits (places.Successor row last) z ≡ true) (map (λ a. pos a.to) lags)
 ends_fit row last [] h = tt
-ends_fit row last (a ∷ lags) h = (is_between_from (pos 0) (pos last) (pos a.to) (omega (arith, ints)) (let t = h.0.to in omega (arith, ints)), ends_fit row last lags h.1)
+ends_fit row last (a ∷ lags) h = (
+  is_between_from (pos 0) (pos last) (pos a.to) (omega (arith, ints))
+      (let t = h.0.to in omega (arith, ints)),
+  ends_fit row last lags h.1,
+)
 
-pub network_row_again : (last left row : ℕ) (own : List Lag) → length own ≤ left → AllByRecursion (RowLag row last) own → Reaches (network_row last left row) (row_numbers row own) (done own)
+pub network_row_again : (last left row : ℕ) (own : List Lag) → length own ≤ left → AllByRecursion (RowLag row last) own
+    → Reaches (network_row last left row) (row_numbers row own) (done own)
 unfolding network_row
 network_row_again last left row own few each =
     let ends = map (λ (a : Lag). pos a.to) own in
     let len : length ends ≡ length own = length-map own (λ a. pos a.to) in
-    let row_there : Reaches (row_of (length own) (places.Successor row last)) ends (done ends) = subst (λ (n : ℕ). Reaches (row_of n (places.Successor row last)) ends (done ends)) len (row_again (places.Successor row last) ends (ends_fit row last own each)) in (
+    let row_there : Reaches (row_of (length own) (places.Successor row last)) ends (done ends) =
+    subst (λ (n : ℕ). Reaches (row_of n (places.Successor row last)) ends (done ends)) len
+    (row_again (places.Successor row last) ends (ends_fit row last own each)) in (
       is_between_from (pos row) (pos row) (pos row) (omega (arith, ints)) (omega (arith, ints)),
       (
         is_between_from (pos 1) (pos 1) (pos 1) (omega (arith, ints)) (omega (arith, ints)),
         (
           is_between_from (pos 0) (pos left) (pos (length own)) (omega (arith, ints)) (omega (arith, ints)),
-          Reaches-bind (row_of (length own) (places.Successor row last)) (λ e. lags_to row e) (done own) ends ends (map (λ a. a.weight) own) row_there (lags_again row last own each),
+          Reaches-bind (row_of (length own) (places.Successor row last)) (λ e. lags_to row e) (done own) ends ends
+              (map (λ a. a.weight) own) row_there (lags_again row last own each),
         ),
       ),
     )
@@ -246,12 +297,21 @@ record Split (row last below : ℕ) (lags : List Lag) : Type 0 where
   order : AreInOrder (row + 1) later
   ends : AllByRecursion (IsEnd last below) later
 
-split_at : (row last below : ℕ) (a : Lag) (lags : List Lag) (b : Bool) → eqb a.from row ≡ b → row ≤ a.from → AreInOrder a.from lags → IsEnd last below a → AllByRecursion (IsEnd last below) lags
+split_at : (row last below : ℕ) (a : Lag) (lags : List Lag) (b : Bool) → eqb a.from row ≡ b → row ≤ a.from
+    → AreInOrder a.from lags → IsEnd last below a → AllByRecursion (IsEnd last below) lags
     → (a.from ≡ row → Split row last below lags) → Split row last below (a ∷ lags)
 split_at row last below a lags true e le order end ends ih =
     let same = eqb-true a.from row e in
     let s = ih same in
-    record { own = a ∷ s.own; later = s.later; parts = ap (λ (r : List Lag). a ∷ r) s.parts; own_row = (record { from = same; to = end.0; light = end.2 }, s.own_row); order = s.order; ends = s.ends }
+    record {
+      own = a ∷ s.own;
+      later = s.later;
+      parts = ap (λ (r : List Lag). a ∷ r) s.parts;
+      own_row =
+          (record { from = same; to = end.0; light = end.2 }, s.own_row);
+      order = s.order;
+      ends = s.ends;
+    }
 split_at row last below a lags false e le order end ends ih =
     let differ : a.from ≡ row → ⊥ = λ same. let t = eq-eqb a.from row same in absurd cc in
     let above : row + 1 ≤ a.from = omega (arith, differ) in
@@ -260,17 +320,25 @@ split_at row last below a lags false e le order end ends ih =
 split_row : (row last below : ℕ) (lags : List Lag) → AreInOrder row lags → AllByRecursion (IsEnd last below) lags → Split row last below lags
 split_row row last below [] order ends = record { own = []; later = []; parts = refl; own_row = tt; order = tt; ends = tt }
 split_row row last below (a ∷ lags) order ends =
-    split_at row last below a lags (eqb a.from row) refl order.0 order.1 ends.0 ends.1 (λ same. split_row row last below lags (subst (λ (r : ℕ). AreInOrder r lags) same order.1) ends.1)
+    split_at row last below a lags (eqb a.from row) refl order.0 order.1 ends.0 ends.1
+    (λ same. split_row row last below lags (subst (λ (r : ℕ). AreInOrder r lags) same order.1) ends.1)
 
 -- the numbers of the rows, by the arcs of the first and those after it
-numbers_split : (rows row last : ℕ) (own later : List Lag) → AllByRecursion (RowLag row last) own → AreInOrder (row + 1) later → network_numbers (suc rows) row (own ++ later) ≡ row_numbers row own ++ network_numbers rows (row + 1) later
+numbers_split : (rows row last : ℕ) (own later : List Lag) → AllByRecursion (RowLag row last) own
+    → AreInOrder (row + 1) later → network_numbers (suc rows) row (own ++ later) ≡ row_numbers row own ++
+    network_numbers rows (row + 1) later
 numbers_split rows row last own later h order =
-    let here : lags_from row (own ++ later) ≡ own = filter-append (λ a. eqb a.from row) own later ∙ ap (λ (r : List Lag). r ++ lags_from row later) (kept row last own h) ∙ ap (λ (r : List Lag). own ++ r) (later_gone row (row + 1) later (omega arith) order) ∙ append-nil own in
+    let here : lags_from row (own ++ later) ≡ own = filter-append (λ a. eqb a.from row) own later
+    ∙ ap (λ (r : List Lag). r ++ lags_from row later) (kept row last own h)
+    ∙ ap (λ (r : List Lag). own ++ r) (later_gone row (row + 1) later (omega arith) order) ∙ append-nil own in
     let rest = skipped rows (row + 1) row last own later (omega arith) h in
-    let grouped : (map (λ a. pos a.to) own ++ map (λ a. a.weight) own) ++ network_numbers rows (row + 1) later ≡ map (λ a. pos a.to) own ++ (map (λ a. a.weight) own ++ network_numbers rows (row + 1) later) = append_assoc (map (λ a. pos a.to) own) (map (λ a. a.weight) own) (network_numbers rows (row + 1) later) in
+    let grouped : (map (λ a. pos a.to) own ++ map (λ a. a.weight) own) ++ network_numbers rows (row + 1) later ≡ map
+    (λ a. pos a.to) own ++ (map (λ a. a.weight) own ++ network_numbers rows (row + 1) later) =
+    append_assoc (map (λ a. pos a.to) own) (map (λ a. a.weight) own) (network_numbers rows (row + 1) later) in
     rw (here, rest) (sym (ap (λ (r : List ℤ). pos row ∷ pos 1 ∷ pos (length own) ∷ r) grouped))
 
-pub network_rows_again : (rows last left row below : ℕ) (lags : List Lag) → below ≡ row + rows → length lags ≤ left → AreInOrder row lags → AllByRecursion (IsEnd last below) lags
+pub network_rows_again : (rows last left row below : ℕ) (lags : List Lag) → below ≡ row + rows → length lags ≤ left
+    → AreInOrder row lags → AllByRecursion (IsEnd last below) lags
     → Reaches (network_rows rows last left row) (network_numbers rows row lags) (done lags)
 unfolding network_rows
 network_rows_again zero last left row below [] e few order ends = refl
@@ -280,9 +348,14 @@ network_rows_again (suc rows) last left row below lags e few order ends =
     let sizes : length lags ≡ length s.own + length s.later = ap length s.parts ∙ length-append s.own s.later in
     let first = network_row_again last left row s.own (omega (arith, sizes, few)) s.own_row in
     let rest = network_rows_again rows last (left - length s.own) (row + 1) below s.later (omega (arith, e)) (omega (arith, sizes, few)) s.order s.ends in
-    let both = Reaches-bind (network_row last left row) (λ own. network_rows rows last (left - length own) (row + 1) >>= λ others. done (own ++ others)) (done (s.own ++ s.later)) s.own (row_numbers row s.own) (network_numbers rows (row + 1) s.later) first
+    let both = Reaches-bind (network_row last left row)
+    (λ own. network_rows rows last (left - length own) (row + 1) >>= λ others. done (own ++ others))
+    (done (s.own ++ s.later)) s.own (row_numbers row s.own) (network_numbers rows (row + 1) s.later) first
     (Reaches-made (network_rows rows last (left - length s.own) (row + 1)) (λ others. s.own ++ others) s.later (network_numbers rows (row + 1) s.later) rest) in
-    let whole : Reaches (network_rows (suc rows) last left row) (network_numbers (suc rows) row (s.own ++ s.later)) (done (s.own ++ s.later)) = subst (λ (zs : List ℤ). Reaches (network_rows (suc rows) last left row) zs (done (s.own ++ s.later))) (sym (numbers_split rows row last s.own s.later s.own_row s.order)) both in
+    let whole : Reaches (network_rows (suc rows) last left row) (network_numbers (suc rows) row (s.own ++ s.later))
+    (done (s.own ++ s.later)) = subst (λ (zs : List ℤ).
+    Reaches (network_rows (suc rows) last left row) zs (done (s.own ++ s.later)))
+    (sym (numbers_split rows row last s.own s.later s.own_row s.order)) both in
     subst (λ (v : List Lag). Reaches (network_rows (suc rows) last left row) (network_numbers (suc rows) row v) (done v)) (sym s.parts) whole
 
 -- ---- The given arcs of a project are those that the network rows take, in their order.
@@ -307,7 +380,9 @@ in_order_all from [] h = record { low = All-nil (λ (a : Lag). from ≤ a.from);
 in_order_all from (a ∷ lags) h =
     let others = in_order_all a.from lags h.1 in
     record {
-      low = All-cons (λ (b : Lag). from ≤ b.from) a lags h.0 (All-weaker (λ (b : Lag). a.from ≤ b.from) (λ (b : Lag). from ≤ b.from) (λ b le. omega (arith, h.0)) lags others.low);
+      low = All-cons (λ (b : Lag). from ≤ b.from) a lags h.0
+          (All-weaker (λ (b : Lag). a.from ≤ b.from) (λ (b : Lag). from ≤ b.from) (λ b le. omega (arith, h.0)) lags
+          others.low);
       rise = AllPairs-cons starts_rise a lags others.low others.rise;
     }
 

@@ -1,5 +1,7 @@
 -- What the reader makes of a printed number, and how long it is.
-use Rattle.std.proofs.Common.{◌≡◌, ℕ, suc, ◌≤◌, ◌<◌, ◌^◌, Bool, true, false, eqb, List, [], ◌∷◌, ◌++◌, length, map, get_or, ℤ, pos, negsuc, Option, Some, refl, ap, ◌∙◌, append_assoc, length-append, arith, nat_abs, ◌≤ℤ◌, ◌+◌, ◌-◌, take, drop, sym, ◌*◌, subst, codes, int_le}
+use Rattle.std.proofs.Common.{◌≡◌, ℕ, suc, ◌≤◌, ◌<◌, ◌^◌, Bool, true, false, eqb, List, [], ◌∷◌, ◌++◌, length, map}
+use Rattle.std.proofs.Common.{get_or, ℤ, pos, negsuc, Option, Some, refl, ap, ◌∙◌, append_assoc, length-append, arith}
+use Rattle.std.proofs.Common.{nat_abs, ◌≤ℤ◌, ◌+◌, ◌-◌, take, drop, sym, ◌*◌, subst, codes, int_le}
 use Rattle.std.specs.List.{All, filter, flat_map, join_with_byte, range_with_len}
 use Rattle.std.specs.Char.{is_ascii_digit}
 use Rattle.std.specs.Fmt.{decimal, signed_decimal}
@@ -35,7 +37,8 @@ unfolding words
 blank_passed b rest h = ap (filter is_word) (slice_split-cons_yes is_blank b rest h)
 
 -- a word ends at a blank
-pub word_taken : (word : List ℕ) (b : ℕ) (rest : List ℕ) → 0 < length word → IsUnbroken word → is_blank b ≡ true → text_words (word ++ b ∷ rest) ≡ word ∷ text_words rest
+pub word_taken : (word : List ℕ) (b : ℕ) (rest : List ℕ) → 0 < length word → IsUnbroken word → is_blank b ≡ true
+    → text_words (word ++ b ∷ rest) ≡ word ∷ text_words rest
 unfolding words
 word_taken [] b rest some none h = absurd (omega arith)
 word_taken (c ∷ word) b rest some none h = ap (filter is_word) (slice_split_at is_blank (c ∷ word) b rest none h)
@@ -67,7 +70,13 @@ decimal_short n small =
     let digits = digits_decimal numerals n fits in
     let some = decimal_nonempty n fits in
     let size = length-decimal-le 7 n (omega arith) (omega arith) fits in
-    record { digits = digits; some = some; size = size; number = natural-Some 9 (decimal n) digits some (omega (arith, size)) ∙ ap Some (digits_value-decimal numerals n fits) }
+    record {
+      digits = digits;
+      some = some;
+      size = size;
+      number =
+          natural-Some 9 (decimal n) digits some (omega (arith, size)) ∙ ap Some (digits_value-decimal numerals n fits);
+    }
 
 token_decimal : (n : ℕ) (word : List ℕ) → IsShort n word → token word ≡ Some (pos n)
 unfolding token integer
@@ -93,7 +102,13 @@ pub signed_token : (z : ℤ) → IsWithin MAX_LAG_WEIGHT z → IsToken (signed_d
 signed_token (pos n) h = decimal_token n (omega (arith, ints, h.at_most))
 signed_token (negsuc n) h =
     let s = decimal_short (suc n) (omega (arith, ints, h.at_least)) in
-    record { some = omega arith; size = omega (arith, s.size); unbroken = All-cons (λ b. is_blank b ≡ false) 45 (decimal (suc n)) refl (digits_unbroken (decimal (suc n)) s.digits); spelled = token_negative n (decimal (suc n)) s }
+    record {
+      some = omega arith;
+      size = omega (arith, s.size);
+      unbroken =
+          All-cons (λ b. is_blank b ≡ false) 45 (decimal (suc n)) refl (digits_unbroken (decimal (suc n)) s.digits);
+      spelled = token_negative n (decimal (suc n)) s;
+    }
 
 -- ---- what is printed for a number
 
@@ -102,8 +117,10 @@ pub record Prints (word : List ℕ) (z : ℤ) : Type 0 where
   pub size : length word ≤ 10
   pub reads : (b : ℕ) (rest : List ℕ) → is_blank b ≡ true → map token (text_words (word ++ b ∷ rest)) ≡ Some z ∷ map token (text_words rest)
 
-token_read : (word : List ℕ) (z : ℤ) → IsToken word z → (b : ℕ) (rest : List ℕ) → is_blank b ≡ true → map token (text_words (word ++ b ∷ rest)) ≡ Some z ∷ map token (text_words rest)
-token_read word z h b rest blank = ap (map token) (word_taken word b rest h.some h.unbroken blank) ∙ ap (λ (o : Option ℤ). o ∷ map token (text_words rest)) h.spelled
+token_read : (word : List ℕ) (z : ℤ) → IsToken word z → (b : ℕ) (rest : List ℕ) → is_blank b ≡ true
+    → map token (text_words (word ++ b ∷ rest)) ≡ Some z ∷ map token (text_words rest)
+token_read word z h b rest blank = ap (map token) (word_taken word b rest h.some h.unbroken blank)
+    ∙ ap (λ (o : Option ℤ). o ∷ map token (text_words rest)) h.spelled
 
 token_prints : (word : List ℕ) (z : ℤ) → IsToken word z → Prints word z
 token_prints word z h = record { size = omega (arith, h.size); reads = token_read word z h }
@@ -130,8 +147,11 @@ bracketed_prints z h =
     record {
       size = omega (arith, t.size, length-append word (93 ∷ []));
       reads = λ b rest blank.
-          let regroup : text_words (bracketed z ++ b ∷ rest) ≡ text_words (91 ∷ (word ++ 93 ∷ b ∷ rest)) = ap (λ (r : List ℕ). text_words (91 ∷ r)) (append_assoc word (93 ∷ []) (b ∷ rest)) in
-          ap (map token) (regroup ∙ blank_passed 91 (word ++ 93 ∷ b ∷ rest) refl) ∙ token_read word z t 93 (b ∷ rest) refl ∙ ap (λ (r : List (List ℕ)). Some z ∷ map token r) (blank_passed b rest blank);
+          let regroup : text_words (bracketed z ++ b ∷ rest) ≡ text_words (91 ∷ (word ++ 93 ∷ b ∷ rest)) =
+          ap (λ (r : List ℕ). text_words (91 ∷ r)) (append_assoc word (93 ∷ []) (b ∷ rest)) in
+          ap (map token) (regroup ∙ blank_passed 91 (word ++ 93 ∷ b ∷ rest) refl)
+          ∙ token_read word z t 93 (b ∷ rest) refl
+          ∙ ap (λ (r : List (List ℕ)). Some z ∷ map token r) (blank_passed b rest blank);
     }
 
 -- ---- What fits a place, as bounds.
@@ -168,7 +188,9 @@ joined word (next ∷ others) = ap (λ (r : List ℕ). word ++ (9 ∷ r)) (joine
 pub line_is : (word : List ℕ) (others : List (List ℕ)) → line (word ∷ others) ≡ word ++ (flat_map tabbed others ++ codes "\n")
 line_is word others = ap (λ (r : List ℕ). r ++ codes "\n") (joined word others) ∙ append_assoc word (flat_map tabbed others) (codes "\n")
 
-pub amounts_line : (old first second whole : List ℕ) (i : ℕ) (time : ℤ) (demands : List ℤ) → first ≡ old ++ (decimal i ++ (codes "\t1\t" ++ signed_decimal time)) → second ≡ first ++ flat_map tabbed (map signed_decimal demands)
+pub amounts_line : (old first second whole : List ℕ) (i : ℕ) (time : ℤ) (demands : List ℤ)
+    → first ≡ old ++ (decimal i ++ (codes "\t1\t" ++ signed_decimal time))
+    → second ≡ first ++ flat_map tabbed (map signed_decimal demands)
     → whole ≡ second ++ codes "\n" → whole ≡ old ++ line (amounts_row i time demands)
 amounts_line old first second whole i time demands a b c =
     rw (c, b, a, line_is (decimal i) (codes "1" ∷ signed_decimal time ∷ map signed_decimal demands)) (simp append_assoc refl)
@@ -180,16 +202,21 @@ others_of_arcs count ends weights end =
     let both = ap (λ (r : List ℕ). r ++ end) (flat_map-append tabbed ends weights) ∙ append_assoc (flat_map tabbed ends) (flat_map tabbed weights) end in
     ap (λ (r : List ℕ). codes "\t1\t" ++ r) (append_assoc count (flat_map tabbed (ends ++ weights)) end ∙ ap (λ (r : List ℕ). count ++ r) both)
 
-pub arcs_line : (old first second third whole : List ℕ) (i : ℕ) (lags : List Lag) → first ≡ old ++ (decimal i ++ (codes "\t1\t" ++ decimal (length lags))) → second ≡ first ++ flat_map tabbed (map (λ a. decimal a.to) lags)
+pub arcs_line : (old first second third whole : List ℕ) (i : ℕ) (lags : List Lag)
+    → first ≡ old ++ (decimal i ++ (codes "\t1\t" ++ decimal (length lags)))
+    → second ≡ first ++ flat_map tabbed (map (λ a. decimal a.to) lags)
     → third ≡ second ++ flat_map tabbed (map (λ a. bracketed a.weight) lags) → whole ≡ third ++ codes "\n" → whole ≡ old ++ line (arcs_row i lags)
 arcs_line old first second third whole i lags a b c d =
     let ends = map (λ a. decimal a.to) lags in
     let weights = map (λ a. bracketed a.weight) lags in
-    let row = line_is (decimal i) (codes "1" ∷ decimal (length lags) ∷ (ends ++ weights)) ∙ ap (λ (r : List ℕ). decimal i ++ r) (others_of_arcs (decimal (length lags)) ends weights (codes "\n")) in
+    let row = line_is (decimal i) (codes "1" ∷ decimal (length lags) ∷ (ends ++ weights))
+    ∙ ap (λ (r : List ℕ). decimal i ++ r) (others_of_arcs (decimal (length lags)) ends weights (codes "\n")) in
     rw (d, c, b, a, row) (simp append_assoc refl)
 
-pub capacities_line : (old first second whole : List ℕ) (capacities : List ℤ) → 1 ≤ length capacities → first ≡ old ++ signed_decimal (get_or capacities 0 (pos 0))
-    → second ≡ first ++ flat_map tabbed (map signed_decimal (take (length capacities - 1) (drop 1 capacities))) → whole ≡ second ++ codes "\n" → whole ≡ old ++ flat_map line (capacity_rows capacities)
+pub capacities_line : (old first second whole : List ℕ) (capacities : List ℤ) → 1 ≤ length capacities
+    → first ≡ old ++ signed_decimal (get_or capacities 0 (pos 0))
+    → second ≡ first ++ flat_map tabbed (map signed_decimal (take (length capacities - 1) (drop 1 capacities)))
+    → whole ≡ second ++ codes "\n" → whole ≡ old ++ flat_map line (capacity_rows capacities)
 capacities_line old first second whole [] some a b c = absurd (omega arith)
 capacities_line old first second whole (z ∷ zs) some a b c =
     let word = signed_decimal z in
@@ -204,7 +231,9 @@ pub row_more : (old now later : List ℕ) (f : ℕ → List (List ℕ)) (i : ℕ
 row_more old now later f i a b =
     let before = flat_map line (map f (range_with_len 0 i)) in
     let more : flat_map line (map f (range_with_len 0 (i + 1))) ≡ before ++ line (f i) =
-    ap (flat_map line) (map-range_with_len_more f 0 i i (omega arith)) ∙ flat_map-append line (map f (range_with_len 0 i)) (f i ∷ []) ∙ ap (λ (r : List ℕ). before ++ r) (append-nil (line (f i))) in
+    ap (flat_map line) (map-range_with_len_more f 0 i i (omega arith))
+    ∙ flat_map-append line (map f (range_with_len 0 i)) (f i ∷ [])
+    ∙ ap (λ (r : List ℕ). before ++ r) (append-nil (line (f i))) in
     b ∙ ap (λ (r : List ℕ). r ++ line (f i)) a ∙ append_assoc old before (line (f i)) ∙ sym (ap (λ (r : List ℕ). old ++ r) more)
 
 -- ---- Lines of printed numbers, read again.
@@ -221,7 +250,8 @@ AllPrint-append [] more [] ys h g = g
 AllPrint-append (word ∷ words) more (z ∷ zs) ys h g = (h.0, AllPrint-append words more zs ys h.1 g)
 AllPrint-append words more zs ys h g = absurd h
 
-pub AllPrint-map : {X : Type 0} (P : X → Type 0) (f : X → List ℕ) (g : X → ℤ) (xs : List X) → ((x : X) → P x → Prints (f x) (g x)) → All P xs → AllPrint (map f xs) (map g xs)
+pub AllPrint-map : {X : Type 0} (P : X → Type 0) (f : X → List ℕ) (g : X → ℤ) (xs : List X)
+    → ((x : X) → P x → Prints (f x) (g x)) → All P xs → AllPrint (map f xs) (map g xs)
 AllPrint-map P f g [] prints each = tt
 AllPrint-map P f g (x ∷ xs) prints each = (prints x (All-head P x xs each), AllPrint-map P f g xs prints (All-tail P x xs each))
 
@@ -241,7 +271,8 @@ line_writes word (next ∷ others) z (y ∷ zs) p h =
     let same : line (word ∷ next ∷ others) ≡ word ++ 9 ∷ tail = append_assoc word (9 ∷ join_with_byte 9 (next ∷ others)) (10 ∷ []) in
     let all : Writes (word ++ 9 ∷ tail) (z ∷ y ∷ zs) = record {
       size = omega (arith, p.size, more.size, length-append word (9 ∷ tail));
-      reads = λ rest. ap (λ (r : List ℕ). map token (text_words r)) (append_assoc word (9 ∷ tail) rest) ∙ p.reads 9 (tail ++ rest) refl ∙ ap (λ (r : List (Option ℤ)). Some z ∷ r) (more.reads rest);
+      reads = λ rest. ap (λ (r : List ℕ). map token (text_words r)) (append_assoc word (9 ∷ tail) rest)
+          ∙ p.reads 9 (tail ++ rest) refl ∙ ap (λ (r : List (Option ℤ)). Some z ∷ r) (more.reads rest);
     } in
     subst (λ (t : List ℕ). Writes t (z ∷ y ∷ zs)) (sym same) all
 line_writes word others z zs p h = absurd h
@@ -255,6 +286,7 @@ Writes-append text more zs ys h g = record {
   reads = λ rest.
       let first = ap (λ (r : List ℕ). map token (text_words r)) (append_assoc text more rest) ∙ h.reads (more ++ rest) in
       let second = ap (λ (r : List (Option ℤ)). map Some zs ++ r) (g.reads rest) in
-      let grouped = ap (λ (r : List (Option ℤ)). r ++ map token (text_words rest)) (map-append Some zs ys) ∙ append_assoc (map Some zs) (map Some ys) (map token (text_words rest)) in
+      let grouped = ap (λ (r : List (Option ℤ)). r ++ map token (text_words rest)) (map-append Some zs ys)
+      ∙ append_assoc (map Some zs) (map Some ys) (map token (text_words rest)) in
       first ∙ second ∙ sym grouped;
 }

@@ -1,5 +1,6 @@
 -- What the layout of the request rows leads to.
-use Rattle.std.proofs.Common.{◌≡◌, ℕ, zero, suc, ◌+◌, true, List, [], ◌∷◌, ◌++◌, length, ℤ, pos, refl, ap, subst, arith, ◌<◌, Bool, false, cond, eqb, get_or, add-zero, ◌||◌}
+use Rattle.std.proofs.Common.{◌≡◌, ℕ, zero, suc, ◌+◌, true, List, [], ◌∷◌, ◌++◌, length, ℤ, pos, refl, ap, subst, arith}
+use Rattle.std.proofs.Common.{◌<◌, Bool, false, cond, eqb, get_or, add-zero, ◌||◌}
 use Rattle.std.specs.List.{AllByRecursion}
 use Rattle.sch_reader.specs.declared.place.Place.TheVariants as places
 use Rattle.sch_reader.specs.Layout.{done, fits, row_of, request_row, request_rows, Requests, both, no_requests, amount_place, ◌>>=◌}
@@ -19,7 +20,8 @@ pub record IsRequest (last resources id : ℕ) (zs : List ℤ) (r : ℤ × List 
   pub duration : fits (amount_place last id) r.0 ≡ true
   pub demands : AllByRecursion (λ z. fits (amount_place last id) z ≡ true) r.1
 
-pub request_row_found : (last resources id : ℕ) (zs : List ℤ) (r : ℤ × List ℤ) → Reaches (request_row last resources id) zs (done r) → IsRequest last resources id zs r
+pub request_row_found : (last resources id : ℕ) (zs : List ℤ) (r : ℤ × List ℤ)
+    → Reaches (request_row last resources id) zs (done r) → IsRequest last resources id zs r
 unfolding request_row
 request_row_found last resources id zs r h =
     let found = first (places.Id (last + 1 + id) id) _ zs r h in
@@ -29,9 +31,12 @@ request_row_found last resources id zs r h =
     let row = row_found resources (amount_place last id) b.first b.value b.to_value in
     let f = finished (duration.number, b.value) r b.second b.after in
     let rest : duration.rest ≡ b.value = alone_is duration.rest b.first b.second b.value b.parts f.0 row.same in
-    let from_duration : mode.rest ≡ duration.number ∷ b.value = next_is mode.rest duration.rest b.value duration.number duration.number duration.parts refl rest in
+    let from_duration : mode.rest ≡ duration.number ∷ b.value =
+    next_is mode.rest duration.rest b.value duration.number duration.number duration.parts refl rest in
     let same : zs ≡ pos id ∷ pos 1 ∷ duration.number ∷ b.value =
-    next_is zs found.rest _ found.number (pos id) found.parts (exactly id found.number found.fit) (next_is found.rest mode.rest _ mode.number (pos 1) mode.parts (exactly 1 mode.number mode.fit) from_duration) in
+    next_is zs found.rest _ found.number (pos id) found.parts (exactly id found.number found.fit)
+    (next_is found.rest mode.rest _ mode.number (pos 1) mode.parts (exactly 1 mode.number mode.fit) from_duration)
+    in
     subst (λ (v : ℤ × List ℤ). IsRequest last resources id zs v) f.1 (record { same = same; count = row.len; duration = duration.fit; demands = row.fit })
 
 -- .. of each row, from this one on
@@ -40,7 +45,9 @@ AreRequests last resources id [] [] = Unit {0}
 AreRequests last resources id [] (row ∷ demands) = ⊥
 AreRequests last resources id (d ∷ durations) [] = ⊥
 AreRequests last resources id (d ∷ durations) (row ∷ demands) =
-    (length row ≡ resources) × (fits (amount_place last id) d ≡ true) × AllByRecursion (λ z. fits (amount_place last id) z ≡ true) row × AreRequests last resources (id + 1) durations demands
+    (length row ≡ resources) × (fits (amount_place last id) d ≡ true)
+    × AllByRecursion (λ z. fits (amount_place last id) z ≡ true) row
+    × AreRequests last resources (id + 1) durations demands
 
 pub record RequestsFound (rows last resources id : ℕ) (zs : List ℤ) (r : Requests) : Type 0 where
   pub same : zs ≡ request_numbers id r.durations r.demands
@@ -50,7 +57,8 @@ pub record RequestsFound (rows last resources id : ℕ) (zs : List ℤ) (r : Req
 abbrev one : ℤ × List ℤ → Requests
 one r = record { durations = r.0 ∷ []; demands = r.1 ∷ [] }
 
-pub request_rows_found : (rows last resources id : ℕ) (zs : List ℤ) (r : Requests) → Reaches (request_rows rows last resources id) zs (done r) → RequestsFound rows last resources id zs r
+pub request_rows_found : (rows last resources id : ℕ) (zs : List ℤ) (r : Requests)
+    → Reaches (request_rows rows last resources id) zs (done r) → RequestsFound rows last resources id zs r
 unfolding request_rows
 request_rows_found zero last resources id zs r h =
     let f = finished no_requests r zs h in
@@ -62,17 +70,21 @@ request_rows_found (suc rows) last resources id zs r h =
     let ih = request_rows_found rows last resources (id + 1) b.first b.value b.to_value in
     let f = finished (both (one a.value) b.value) r b.second b.after in
     let after : a.second ≡ request_numbers (id + 1) b.value.durations b.value.demands = alone_is a.second b.first b.second _ b.parts f.0 ih.same in
-    let same : zs ≡ (pos id ∷ pos 1 ∷ a.value.0 ∷ a.value.1) ++ request_numbers (id + 1) b.value.durations b.value.demands = joined_is zs a.first a.second _ _ a.parts here.same after in
+    let same : zs ≡ (pos id ∷ pos 1 ∷ a.value.0 ∷ a.value.1) ++ request_numbers (id + 1) b.value.durations
+    b.value.demands = joined_is zs a.first a.second _ _ a.parts here.same after in
     subst (λ (v : Requests). RequestsFound (suc rows) last resources id zs v) f.1
     (record { same = same; count = ap suc ih.count; each = (here.count, here.duration, here.demands, ih.each) })
 
 -- ---- The numbers of the request rows lead the layout to their end.
 
-pub request_row_again : (last resources id : ℕ) (d : ℤ) (row : List ℤ) → length row ≡ resources → fits (amount_place last id) d ≡ true → AllByRecursion (λ z. fits (amount_place last id) z ≡ true) row
+pub request_row_again : (last resources id : ℕ) (d : ℤ) (row : List ℤ) → length row ≡ resources
+    → fits (amount_place last id) d ≡ true → AllByRecursion (λ z. fits (amount_place last id) z ≡ true) row
     → Reaches (request_row last resources id) (pos id ∷ pos 1 ∷ d ∷ row) (done (d, row))
 unfolding request_row
 request_row_again last resources id d row len fit all =
-    let there : Reaches (row_of resources (amount_place last id)) row (done row) = subst (λ (n : ℕ). Reaches (row_of n (amount_place last id)) row (done row)) len (row_again (amount_place last id) row all) in (
+    let there : Reaches (row_of resources (amount_place last id)) row (done row) =
+    subst (λ (n : ℕ). Reaches (row_of n (amount_place last id)) row (done row)) len
+    (row_again (amount_place last id) row all) in (
       is_between_from (pos id) (pos id) (pos id) (omega (arith, ints)) (omega (arith, ints)),
       (
         is_between_from (pos 1) (pos 1) (pos 1) (omega (arith, ints)) (omega (arith, ints)),
@@ -91,9 +103,13 @@ pub request_rows_again : (last resources id : ℕ) (durations : List ℤ) (deman
 unfolding request_rows
 request_rows_again last resources id [] [] h = refl
 request_rows_again last resources id (d ∷ durations) (row ∷ demands) h =
-    Reaches-bind (request_row last resources id) (λ v. request_rows (length durations) last resources (id + 1) >>= λ others. done (both (one v) others)) (done (requests (d ∷ durations) (row ∷ demands)))
+    Reaches-bind (request_row last resources id)
+    (λ v. request_rows (length durations) last resources (id + 1) >>= λ others. done (both (one v) others))
+    (done (requests (d ∷ durations) (row ∷ demands)))
     (pair_of d row) (pos id ∷ pos 1 ∷ d ∷ row) (request_numbers (id + 1) durations demands) (request_row_again last resources id d row h.0 h.1 h.2)
-    (Reaches-made (request_rows (length durations) last resources (id + 1)) (λ others. both (one (pair_of d row)) others) (requests durations demands) (request_numbers (id + 1) durations demands) (request_rows_again last resources (id + 1) durations demands h.3))
+    (Reaches-made (request_rows (length durations) last resources (id + 1))
+    (λ others. both (one (pair_of d row)) others) (requests durations demands)
+    (request_numbers (id + 1) durations demands) (request_rows_again last resources (id + 1) durations demands h.3))
 request_rows_again last resources id durations demands h = absurd h
 
 -- ---- The durations and demands of a project are those that the request rows take: nothing at a dummy, an amount elsewhere.
@@ -111,7 +127,8 @@ pub record IsRequestAt (last resources i : ℕ) (d : ℤ) (row : List ℤ) : Typ
   pub demands : AllByRecursion (λ z. fits (amount_place last i) z ≡ true) row
 
 pub requests_from : (last resources id : ℕ) (durations : List ℤ) (demands : List (List ℤ)) → length durations ≡ length demands
-    → ((i : ℕ) → i < length durations → IsRequestAt last resources (id + i) (get_or durations i (pos 0)) (get_or demands i [])) → AreRequests last resources id durations demands
+    → ((i : ℕ) → i < length durations → IsRequestAt last resources (id + i) (get_or durations i (pos 0))
+    (get_or demands i [])) → AreRequests last resources id durations demands
 requests_from last resources id [] [] e each = tt
 requests_from last resources id (d ∷ durations) (row ∷ demands) e each =
     let here : IsRequestAt last resources id d row = subst (λ (k : ℕ). IsRequestAt last resources k d row) (add-zero id) (each 0 (omega arith)) in (
@@ -124,12 +141,14 @@ requests_from last resources id (d ∷ durations) (row ∷ demands) e each =
     )
 requests_from last resources id durations demands e each = absurd (omega (arith, e))
 
-pub requests_count : (last resources id : ℕ) (durations : List ℤ) (demands : List (List ℤ)) → AreRequests last resources id durations demands → length demands ≡ length durations
+pub requests_count : (last resources id : ℕ) (durations : List ℤ) (demands : List (List ℤ))
+    → AreRequests last resources id durations demands → length demands ≡ length durations
 requests_count last resources id [] [] h = refl
 requests_count last resources id (d ∷ durations) (row ∷ demands) h = ap suc (requests_count last resources (id + 1) durations demands h.3)
 requests_count last resources id durations demands h = absurd h
 
-pub request_at : (last resources id : ℕ) (durations : List ℤ) (demands : List (List ℤ)) → AreRequests last resources id durations demands → (i : ℕ) → i < length durations
+pub request_at : (last resources id : ℕ) (durations : List ℤ) (demands : List (List ℤ))
+    → AreRequests last resources id durations demands → (i : ℕ) → i < length durations
     → IsRequestAt last resources (id + i) (get_or durations i (pos 0)) (get_or demands i [])
 request_at last resources id [] demands h i lt = absurd (omega arith)
 request_at last resources id (d ∷ durations) [] h i lt = absurd h
@@ -138,7 +157,8 @@ request_at last resources id (d ∷ durations) (row ∷ demands) h zero lt =
     subst (λ (k : ℕ). IsRequestAt last resources k d row) (let e : id ≡ id + 0 = omega arith in e) here
 request_at last resources id (d ∷ durations) (row ∷ demands) h (suc i) lt =
     let next : (id + 1) + i ≡ id + suc i = omega arith in
-    subst (λ (k : ℕ). IsRequestAt last resources k (get_or durations i (pos 0)) (get_or demands i [])) next (request_at last resources (id + 1) durations demands h.3 i (omega arith))
+    subst (λ (k : ℕ). IsRequestAt last resources k (get_or durations i (pos 0)) (get_or demands i [])) next
+    (request_at last resources (id + 1) durations demands h.3 i (omega arith))
 
 -- what fits either place is an amount
 amount_at : (row : ℕ) (b : Bool) (z : ℤ) → fits (cond b (places.Nothing row) places.Amount) z ≡ true → IsAmount z

@@ -1,5 +1,6 @@
 -- What the answer of the whole reading says of a text: the project that it spells, or its first fault.
-use Rattle.std.proofs.Common.{◌≡◌, ◌≢◌, ℕ, ◌≤◌, ◌<◌, List, [], ◌∷◌, ◌++◌, length, ℤ, Option, Some, None, Result, Ok, Err, refl, sym, ap, subst, ◌∙◌, inl, inr, arith, IsOk, OnErr, append-nil}
+use Rattle.std.proofs.Common.{◌≡◌, ◌≢◌, ℕ, ◌≤◌, ◌<◌, List, [], ◌∷◌, ◌++◌, length, ℤ, Option, Some, None, Result, Ok}
+use Rattle.std.proofs.Common.{Err, refl, sym, ap, subst, ◌∙◌, inl, inr, arith, IsOk, OnErr, append-nil}
 use Rattle.network.specs.Problem.{Problem, IsProject}
 use Rattle.sch_reader.specs.declared.fault.SchFault.TheVariants as faults
 use Rattle.sch_reader.specs.declared.place.Place.TheVariants as places
@@ -16,16 +17,22 @@ answer p = Ok p
 
 -- ---- a project that was read
 
-after_all : (text : List ℕ) (q p : Problem) (c : Cursor) (rest : List (List ℕ)) → length text ≤ MAX_TEXT_BYTES → c.rest ≡ rest → WasRead project_text 0 (text_words text) q c → ended q c.index rest ≡ Ok p → IsProject p × Spells text p
+after_all : (text : List ℕ) (q p : Problem) (c : Cursor) (rest : List (List ℕ)) → length text ≤ MAX_TEXT_BYTES
+    → c.rest ≡ rest → WasRead project_text 0 (text_words text) q c → ended q c.index rest ≡ Ok p → IsProject p
+    × Spells text p
 after_all text q p c (w ∷ more) size is was e = absurd cc
 after_all text q p c [] size is was e =
     let f = exact.found was.numbers q was.reached in
     let all : text_words text ≡ was.front = was.parts ∙ ap (λ (r : List (List ℕ)). was.front ++ r) is ∙ append-nil was.front in
-    let spelled : Spell (text_words text) (flat q) = subst (λ (zs : List ℤ). Spell (text_words text) zs) (sym f.1) (subst (λ (t : List (List ℕ)). Spell t was.numbers) (sym all) was.spelled) in
+    let spelled : Spell (text_words text) (flat q) =
+    subst (λ (zs : List ℤ). Spell (text_words text) zs) (sym f.1)
+    (subst (λ (t : List (List ℕ)). Spell t was.numbers) (sym all) was.spelled) in
     let same : q ≡ p = cc in
     subst (λ (r : Problem). IsProject r × Spells text r) same (f.0, record { size = size; spelled = spelled })
 
-by_reading : (text : List ℕ) (p : Problem) (r : Result (Problem × Cursor) SchFault) → length text ≤ MAX_TEXT_BYTES → reading project_text (start (text_words text)) ≡ r → (r >>= λ x. ended x.0 x.1.index x.1.rest) ≡ Ok p → IsProject p × Spells text p
+by_reading : (text : List ℕ) (p : Problem) (r : Result (Problem × Cursor) SchFault) → length text ≤ MAX_TEXT_BYTES
+    → reading project_text (start (text_words text)) ≡ r → (r >>= λ x. ended x.0 x.1.index x.1.rest) ≡ Ok p
+    → IsProject p × Spells text p
 by_reading text p (Ok x) size is h = after_all text x.0 p x.1 x.1.rest size refl (reading_was project_text 0 (text_words text) x.0 x.1 is) h
 by_reading text p (Err d) size is h = absurd cc
 
@@ -53,7 +60,8 @@ memory_alone faults.Memory h = refl
 memory_alone e h = absurd (h (λ x. absurd cc))
 
 -- where the text spells a project the fault is Memory
-pub fault_of_spelled : (text : List ℕ) (p : Problem) (e : SchFault) → IsProject p → Spells text p → (e ≢ faults.Memory → whole_reading (text_words text) ≡ Err e) → e ≡ faults.Memory
+pub fault_of_spelled : (text : List ℕ) (p : Problem) (e : SchFault) → IsProject p → Spells text p
+    → (e ≢ faults.Memory → whole_reading (text_words text) ≡ Err e) → e ≡ faults.Memory
 fault_of_spelled text p e fit s h = memory_alone e (λ other. let a = spelled_is_read exact text p fit s in let b = h other in absurd cc)
 
 pub first_fault : (text : List ℕ) (e : SchFault) → length text ≤ MAX_TEXT_BYTES → whole_reading (text_words text) ≡ Err e → IsFirstFault text e
@@ -86,7 +94,8 @@ long_from_fault : (text : List ℕ) (e : SchFault) → IsFirstFault text e → e
 long_from_fault text e (inl long) is = long.long
 long_from_fault text e (inr other) is = absurd (word_fault (text_words text) e other.1 is)
 
-pub not_long : (text : List ℕ) (e : SchFault) → length text ≤ MAX_TEXT_BYTES → (e ≢ faults.Memory → whole_reading (text_words text) ≡ Err e) → e ≢ faults.TooLong
+pub not_long : (text : List ℕ) (e : SchFault) → length text ≤ MAX_TEXT_BYTES
+    → (e ≢ faults.Memory → whole_reading (text_words text) ≡ Err e) → e ≢ faults.TooLong
 not_long text e size h is =
     let other : e ≢ faults.Memory = λ memory. absurd cc in
     let long = long_from_fault text e (first_fault text e size (h other)) is in

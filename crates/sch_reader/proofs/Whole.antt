@@ -1,5 +1,6 @@
 -- What the layout of a project text leads to.
-use Rattle.std.proofs.Common.{◌≡◌, ℕ, ◌+◌, ◌-◌, ◌≤◌, true, List, [], ◌∷◌, ◌++◌, length, ℤ, pos, nat_abs, sym, subst, arith, refl, ◌<◌, eqb, get_or, ◌∙◌, inl, inr, ◌||◌}
+use Rattle.std.proofs.Common.{◌≡◌, ℕ, ◌+◌, ◌-◌, ◌≤◌, true, List, [], ◌∷◌, ◌++◌, length, ℤ, pos, nat_abs, sym, subst}
+use Rattle.std.proofs.Common.{arith, refl, ◌<◌, eqb, get_or, ◌∙◌, inl, inr, ◌||◌}
 use Rattle.std.specs.List.{AllByRecursion, All}
 use Rattle.sch_reader.specs.declared.place.Place.TheVariants as places
 use Rattle.network.specs.declared.parts.Lag.{Lag}
@@ -9,8 +10,12 @@ use Rattle.sch_reader.specs.Layout.{Layout, Requests, done, fits, row_of, header
 use Rattle.sch_reader.specs.Text.{flat, network_numbers, request_numbers}
 use Rattle.sch_reader.proofs.Layouts.{Reaches, through, Reaches-bind}
 use Rattle.sch_reader.proofs.Printed.{exactly, up_to, is_between_from}
-use Rattle.sch_reader.proofs.NetworkRows.{first, finished, next_is, joined_is, alone_is, row_found, AreInOrder, IsEnd, network_rows_found, row_again, network_rows_again, Reaches-made, order_from, in_order_all, lags_from_ends, ends_from_lags}
-use Rattle.sch_reader.proofs.RequestRows.{AreRequests, request_rows_found, request_rows_again, IsRequestAt, amount_from, amount_fits, amount_there, nothing_there, fits_there, is_first, is_last, requests_from, requests_count, request_at}
+use Rattle.sch_reader.proofs.NetworkRows.{first, finished, next_is, joined_is, alone_is, row_found, AreInOrder, IsEnd}
+use Rattle.sch_reader.proofs.NetworkRows.{network_rows_found, row_again, network_rows_again, Reaches-made, order_from}
+use Rattle.sch_reader.proofs.NetworkRows.{in_order_all, lags_from_ends, ends_from_lags}
+use Rattle.sch_reader.proofs.RequestRows.{AreRequests, request_rows_found, request_rows_again, IsRequestAt, amount_from}
+use Rattle.sch_reader.proofs.RequestRows.{amount_fits, amount_there, nothing_there, fits_there, is_first, is_last}
+use Rattle.sch_reader.proofs.RequestRows.{requests_from, requests_count, request_at}
 use Rattle.std.proofs.lemmas.Int.{ints}
 use Rattle.std.proofs.lemmas.Bool.{eqb-true, or_cases}
 use Rattle.std.proofs.lemmas.List.Elements.{All-weaker, All-get_or, All-from_get_or, All-from_recursion, recursion_from_All}
@@ -32,7 +37,9 @@ header_found zs h r =
     let un = up_to (MAX_ACTIVITIES - 2) n.number n.fit in
     let uk = up_to MAX_RESOURCES k.number k.fit in
     let zeros : k.rest ≡ pos 0 ∷ pos 0 ∷ [] =
-    next_is k.rest third.rest _ third.number (pos 0) third.parts (exactly 0 third.number third.fit) (next_is third.rest fourth.rest [] fourth.number (pos 0) fourth.parts (exactly 0 fourth.number fourth.fit) f.0) in
+    next_is k.rest third.rest _ third.number (pos 0) third.parts (exactly 0 third.number third.fit)
+    (next_is third.rest fourth.rest [] fourth.number (pos 0) fourth.parts (exactly 0 fourth.number fourth.fit) f.0)
+    in
     let same : zs ≡ pos (nat_abs n.number) ∷ pos (nat_abs k.number) ∷ pos 0 ∷ pos 0 ∷ [] =
     next_is zs n.rest _ n.number (pos (nat_abs n.number)) n.parts un.0 (next_is n.rest k.rest _ k.number (pos (nat_abs k.number)) k.parts uk.0 zeros) in
     subst (λ (v : ℕ × ℕ). IsHeader zs v) f.1 (record { same = same; few = omega (arith, un.1); resources = uk.1 })
@@ -71,10 +78,22 @@ flat_from n k zs p count row whole =
     let n_is : length p.durations - 2 ≡ n = omega (arith, count) in
     rw (n_is, count, row) (sym whole)
 
-accepted_by : (n k : ℕ) (p : Problem) → n + 2 ≤ MAX_ACTIVITIES → k ≤ MAX_RESOURCES → length p.durations ≡ n + 2 → length p.capacities ≡ k → AreRequests (n + 1) k 0 p.durations p.demands
-    → AllByRecursion (λ z. fits places.Amount z ≡ true) p.capacities → length p.lags ≤ MAX_LAGS → AreInOrder 0 p.lags → AllByRecursion (IsEnd (n + 1) (0 + (n + 2))) p.lags → IsAccepted p
+accepted_by : (n k : ℕ) (p : Problem) → n + 2 ≤ MAX_ACTIVITIES → k ≤ MAX_RESOURCES → length p.durations ≡ n + 2
+    → length p.capacities ≡ k → AreRequests (n + 1) k 0 p.durations p.demands
+    → AllByRecursion (λ z. fits places.Amount z ≡ true) p.capacities → length p.lags ≤ MAX_LAGS → AreInOrder 0 p.lags
+    → AllByRecursion (IsEnd (n + 1) (0 + (n + 2))) p.lags → IsAccepted p
 accepted_by n k p few small count row requests fit few_lags order ends =
-    record { n = n; few = few; count = count; resources = rw row small; requests = rw row requests; capacities = fit; few_lags = few_lags; order = order; ends = ends }
+    record {
+      n = n;
+      few = few;
+      count = count;
+      resources = rw row small;
+      requests = rw row requests;
+      capacities = fit;
+      few_lags = few_lags;
+      order = order;
+      ends = ends;
+    }
 
 pub accepted_found : (zs : List ℤ) (p : Problem) → Reaches project_text zs (done p) → IsAccepted p × (flat p ≡ zs)
 unfolding project_text
@@ -96,7 +115,8 @@ accepted_found zs p r =
     let rest = network_numbers (n + 2) 0 b.value ++ (asked ++ d.value) in
     let requests_on = joined_is b.second c.first c.second asked d.value c.parts requests.same capacities_on in
     let rows_on = joined_is a.second b.first b.second (network_numbers (n + 2) 0 b.value) (asked ++ d.value) b.parts lags.same requests_on in
-    let is_flat = flat_from n k zs made requests.count row.len (joined_is zs a.first a.second (pos n ∷ pos k ∷ pos 0 ∷ pos 0 ∷ []) rest a.parts head.same rows_on) in
+    let is_flat = flat_from n k zs made requests.count row.len
+    (joined_is zs a.first a.second (pos n ∷ pos k ∷ pos 0 ∷ pos 0 ∷ []) rest a.parts head.same rows_on) in
     let fit = accepted_by n k made head.few head.resources requests.count row.len requests.each row.fit lags.few lags.order lags.ends in
     subst (λ (v : Problem). IsAccepted v × (flat v ≡ zs)) {x = made} f.1 (fit, is_flat)
 
@@ -122,12 +142,14 @@ accepted_again p a =
     let n_is : length p.durations - 2 ≡ a.n = omega (arith, a.count) in
     let network = network_numbers (a.n + 2) 0 p.lags in
     let requests = request_numbers 0 p.durations p.demands in
-    let last = Reaches-made (row_of k places.Amount) (problem_from p.lags (requests_of p)) p.capacities p.capacities (row_again places.Amount p.capacities a.capacities) in
+    let last = Reaches-made (row_of k places.Amount) (problem_from p.lags (requests_of p)) p.capacities p.capacities
+    (row_again places.Amount p.capacities a.capacities) in
     let at_requests = Reaches-bind (request_rows (length p.durations) (a.n + 1) k 0) (after_requests k p.lags) (done p) (requests_of p) requests p.capacities
     (request_rows_again (a.n + 1) k 0 p.durations p.demands a.requests) last in
     let at_rows = Reaches-bind (network_rows (a.n + 2) (a.n + 1) MAX_LAGS 0) (after_lags a.n k) (done p) p.lags network (requests ++ p.capacities)
     (network_rows_again (a.n + 2) (a.n + 1) MAX_LAGS 0 (0 + (a.n + 2)) p.lags refl a.few_lags a.order a.ends) (rw a.count at at_requests) in
-    let whole = Reaches-bind header after_header (done p) (pair_of a.n k) (pos a.n ∷ pos k ∷ pos 0 ∷ pos 0 ∷ []) (network ++ (requests ++ p.capacities)) (header_again a.n k a.few a.resources) at_rows in
+    let whole = Reaches-bind header after_header (done p) (pair_of a.n k) (pos a.n ∷ pos k ∷ pos 0 ∷ pos 0 ∷ [])
+    (network ++ (requests ++ p.capacities)) (header_again a.n k a.few a.resources) at_rows in
     rw (n_is, a.count) whole
 
 -- ---- The layout leads to just the flat lists of the projects within the limits.
@@ -138,14 +160,17 @@ accepted_again p a =
 request_of : (p : Problem) (a : IsAccepted p) (i : ℕ) → i < activity_count p → IsRequestAt (a.n + 1) (resource_count p) i (duration p i) (get_or p.demands i [])
 request_of p a i lt =
     let zero_first : 0 + i ≡ i = omega arith in
-    subst (λ (k : ℕ). IsRequestAt (a.n + 1) (resource_count p) k (duration p i) (get_or p.demands i [])) zero_first (request_at (a.n + 1) (resource_count p) 0 p.durations p.demands a.requests i lt)
+    subst (λ (k : ℕ). IsRequestAt (a.n + 1) (resource_count p) k (duration p i) (get_or p.demands i [])) zero_first
+    (request_at (a.n + 1) (resource_count p) 0 p.durations p.demands a.requests i lt)
 
 dummy_of : (p : Problem) (a : IsAccepted p) (i : ℕ) → i < activity_count p → (eqb i 0 || eqb i (a.n + 1)) ≡ true → IsDummy p i
 dummy_of p a i lt is =
     let r = request_of p a i lt in
     record {
       no_time = nothing_there (a.n + 1) i (duration p i) is r.duration;
-      no_demand = All-weaker (λ z. fits (amount_place (a.n + 1) i) z ≡ true) (λ z. z ≡ pos 0) (λ z. nothing_there (a.n + 1) i z is) (get_or p.demands i []) (All-from_recursion (λ z. fits (amount_place (a.n + 1) i) z ≡ true) (get_or p.demands i []) r.demands);
+      no_demand = All-weaker (λ z. fits (amount_place (a.n + 1) i) z ≡ true) (λ z. z ≡ pos 0)
+          (λ z. nothing_there (a.n + 1) i z is) (get_or p.demands i [])
+          (All-from_recursion (λ z. fits (amount_place (a.n + 1) i) z ≡ true) (get_or p.demands i []) r.demands);
     }
 
 row_of_amounts : (p : Problem) (a : IsAccepted p) (i : ℕ) → i < activity_count p → All IsAmount (get_or p.demands i [])
@@ -171,7 +196,8 @@ project_from p a =
       end_is_dummy = dummy_of p a (end_of p) (omega arith) (is_last (a.n + 1) (end_of p) (omega arith));
       durations_fit = All-from_get_or IsAmount p.durations (pos 0) (λ i lt. amount_there (a.n + 1) i (duration p i) (request_of p a i lt).duration);
       demands_fit = All-from_get_or (λ row. All IsAmount row) p.demands [] (λ i lt. row_of_amounts p a i (omega arith));
-      capacities_fit = All-weaker (λ z. fits places.Amount z ≡ true) IsAmount amount_from p.capacities (All-from_recursion (λ z. fits places.Amount z ≡ true) p.capacities a.capacities);
+      capacities_fit = All-weaker (λ z. fits places.Amount z ≡ true) IsAmount amount_from p.capacities
+          (All-from_recursion (λ z. fits places.Amount z ≡ true) p.capacities a.capacities);
       lags_fit = lags_from_ends (a.n + 1) (activity_count p) p.lags (omega arith) ends;
       lags_rise = order.rise;
     }
@@ -185,14 +211,16 @@ dummy_if p is last i e dummy =
       | inr there ↦ subst (λ (k : ℕ). IsDummy p k) (sym (eqb-true i last there ∙ e)) is.end_is_dummy
     ]
 
-request_from : (p : Problem) → IsProject p → (last i : ℕ) → last ≡ end_of p → i < activity_count p → IsRequestAt last (resource_count p) i (duration p i) (get_or p.demands i [])
+request_from : (p : Problem) → IsProject p → (last i : ℕ) → last ≡ end_of p → i < activity_count p
+    → IsRequestAt last (resource_count p) i (duration p i) (get_or p.demands i [])
 request_from p is last i e lt =
     let inside : i < length p.demands = omega (arith, is.demand_rows) in
     let dummy : (eqb i 0 || eqb i last) ≡ true → IsDummy p i = dummy_if p is last i e in
     let row = get_or p.demands i [] in
     let amounts : All IsAmount row = All-get_or (λ (r : List ℤ). All IsAmount r) p.demands i [] inside is.demands_fit in
     let each : All (λ z. fits (amount_place last i) z ≡ true) row = All-from_get_or (λ z. fits (amount_place last i) z ≡ true) row (pos 0) (λ k less.
-    fits_there last i (get_or row k (pos 0)) (λ d. All-get_or (λ z. z ≡ pos 0) row k (pos 0) less (dummy d).no_demand) (All-get_or IsAmount row k (pos 0) less amounts)) in
+    fits_there last i (get_or row k (pos 0)) (λ d. All-get_or (λ z. z ≡ pos 0) row k (pos 0) less (dummy d).no_demand)
+    (All-get_or IsAmount row k (pos 0) less amounts)) in
     record {
       count = All-get_or (λ (r : List ℤ). length r ≡ resource_count p) p.demands i [] inside is.demand_columns;
       duration = fits_there last i (duration p i) (λ d. (dummy d).no_time) (All-get_or IsAmount p.durations i (pos 0) lt is.durations_fit);
@@ -215,7 +243,8 @@ accepted_from p is =
       requests = requests_from (n + 1) (resource_count p) 0 p.durations p.demands same_count (λ i lt.
           let zero_first : i ≡ 0 + i = omega arith in
           subst (λ (k : ℕ). IsRequestAt (n + 1) (resource_count p) k (duration p i) (get_or p.demands i [])) zero_first (request_from p is (n + 1) i last lt));
-      capacities = recursion_from_All (λ z. fits places.Amount z ≡ true) p.capacities (All-weaker IsAmount (λ z. fits places.Amount z ≡ true) amount_fits p.capacities is.capacities_fit);
+      capacities = recursion_from_All (λ z. fits places.Amount z ≡ true) p.capacities
+          (All-weaker IsAmount (λ z. fits places.Amount z ≡ true) amount_fits p.capacities is.capacities_fit);
       few_lags = is.lag_limit;
       order = order_from 0 p.lags (λ i d lt. omega arith) is.lags_rise;
       ends = subst (λ (k : ℕ). AllByRecursion (IsEnd (n + 1) k) p.lags) below (ends_from_lags (n + 1) (activity_count p) p.lags (omega arith) is.lags_fit);

@@ -1,5 +1,6 @@
 -- The places of a project text, what fits each, and the fault of each.
-use Rattle.std.specs.Prelude.{ℕ, zero, suc, ◌+◌, ◌-◌, ◌==◌, Bool, ◌&&◌, ◌||◌, List, [], ◌∷◌, ◌++◌, length, map, Vec, ℤ, pos, neg_ℤ, nat_abs, int_le, if◌then◌else◌}
+use Rattle.std.specs.Prelude.{ℕ, zero, suc, ◌+◌, ◌-◌, ◌==◌, Bool, ◌&&◌, ◌||◌, List, [], ◌∷◌, ◌++◌, length, map, Vec, ℤ}
+use Rattle.std.specs.Prelude.{pos, neg_ℤ, nat_abs, int_le, if◌then◌else◌}
 use Rattle.std.specs.declared.alloc.Global.{Global}
 pub use Rattle.sch_reader.specs.declared.fault.SchFault.{SchFault}
 use Rattle.sch_reader.specs.declared.fault.SchFault.TheVariants as faults

@@ -1,5 +1,6 @@
 -- Which texts spell a project, and the first fault of those that don't.
-use Rattle.std.specs.Prelude.{ℕ, List, [], ◌∷◌, ℤ, Option, ◌≡◌, zero, suc, ◌+◌, ◌-◌, ◌<◌, ◌≤◌, ◌==◌, ◌++◌, length, map, pos, Some, None, ◌⊎◌, slice_index_or, codes}
+use Rattle.std.specs.Prelude.{ℕ, List, [], ◌∷◌, ℤ, Option, ◌≡◌, zero, suc, ◌+◌, ◌-◌, ◌<◌, ◌≤◌, ◌==◌, ◌++◌, length, map}
+use Rattle.std.specs.Prelude.{pos, Some, None, ◌⊎◌, slice_index_or, codes}
 use Rattle.words.specs.Words.{integer}
 use Rattle.words.specs.Words as words
 use Rattle.sch_reader.specs.declared.reader.TheConstants.{TOKEN_DIGITS}

@@ -50,7 +50,9 @@ violations_none p s are = (feasible, none)
           schedule = record {
             whole = are.count;
             from_zero = starts_at_zero s (append_nil_left (start_violations s) (lag_violations s (rules p) ++ overload_violations (all_overloads p s)) h);
-            rules_met = All-weaker (λ rule. breaks s rule ≡ false) (Meets s) (λ rule kept. met_rule (start s rule.from +ℤ rule.weight) (start s rule.to) kept) (rules p) (All-from_recursion (λ rule. breaks s rule ≡ false) (rules p) met);
+            rules_met = All-weaker (λ rule. breaks s rule ≡ false) (Meets s)
+                (λ rule kept. met_rule (start s rule.from +ℤ rule.weight) (start s rule.to) kept) (rules p)
+                (All-from_recursion (λ rule. breaks s rule ≡ false) (rules p) met);
           };
           within = (overloads_none p s are).0 (map_nil overload_violation (all_overloads p s) overloads);
         }
@@ -58,13 +60,17 @@ violations_none p s are = (feasible, none)
     none : IsFeasible p s → violations p s ≡ []
     none is =
         let at_zero = zero_is (start s 0) is.schedule.from_zero in
-        let met = All-weaker (Meets s) (λ rule. breaks s rule ≡ false) (λ rule kept. unbroken (start s rule.from +ℤ rule.weight) (start s rule.to) kept) (rules p) is.schedule.rules_met in
+        let met = All-weaker (Meets s) (λ rule. breaks s rule ≡ false)
+        (λ rule kept. unbroken (start s rule.from +ℤ rule.weight) (start s rule.to) kept) (rules p)
+        is.schedule.rules_met in
         let lags = filter_nothing (breaks s) (rules p) (recursion_from_All (λ rule. breaks s rule ≡ false) (rules p) met) in
         let overloads = (overloads_none p s are).1 is.within in
         rw (at_zero, lags, overloads) refl
 
 -- the three parts of the list, one after the other
-pub joined : (p : Problem) (s : List ℤ) (arcs : List Lag) (empty at_start with_lags all : List Violation) → arcs ≡ rules p → empty ≡ [] → at_start ≡ empty ++ start_violations s → with_lags ≡ at_start ++ lag_violations s arcs → all ≡ with_lags ++ overload_violations (all_overloads p s) →
+pub joined : (p : Problem) (s : List ℤ) (arcs : List Lag) (empty at_start with_lags all : List Violation)
+    → arcs ≡ rules p → empty ≡ [] → at_start ≡ empty ++ start_violations s
+    → with_lags ≡ at_start ++ lag_violations s arcs → all ≡ with_lags ++ overload_violations (all_overloads p s) →
     all ≡ violations p s
 joined p s arcs empty at_start with_lags all are none first second third =
     rw (third, second, first, none, are) (append_assoc (start_violations s) (lag_violations s (rules p)) (overload_violations (all_overloads p s)))

@@ -1,5 +1,8 @@
 -- A text has no fault exactly where each of its lines is right and each activity has just one.
-use Rattle.std.proofs.Common.{◌≡◌, ℕ, ◌+◌, ◌<◌, ◌≤◌, Bool, true, false, cond, List, [], ◌∷◌, ◌++◌, length, get_or, refl, arith, Option, Some, None, eqb, ltb, eq-eqb, zero, suc, ◌^◌, map, drop, sym, ap, ◌∙◌, ℤ, is_none, is_some, pos, negsuc, nat_abs, unwrap_or, lt-ltb, le-ltb, ltb-true, ltb-false, ne_eqb}
+use Rattle.std.proofs.Common.{◌≡◌, ℕ, ◌+◌, ◌<◌, ◌≤◌, Bool, true, false, cond, List, [], ◌∷◌, ◌++◌, length, get_or, refl}
+use Rattle.std.proofs.Common.{arith, Option, Some, None, eqb, ltb, eq-eqb, zero, suc, ◌^◌, map, drop, sym, ap, ◌∙◌, ℤ}
+use Rattle.std.proofs.Common.{is_none, is_some, pos, negsuc, nat_abs, unwrap_or, lt-ltb, le-ltb, ltb-true, ltb-false}
+use Rattle.std.proofs.Common.{ne_eqb}
 use Rattle.std.specs.List.{AllByRecursion, count_by, position_or_len, All, range_with_len}
 use Rattle.std.specs.Option.{option_map}
 use Rattle.std.proofs.lemmas.Bool.Decides.{nat_tests}
@@ -8,7 +11,10 @@ use Rattle.std.proofs.lemmas.List.Sums.{sum_by-cons, fails_before_first}
 use Rattle.words.specs.declared.TheConstants.{MAX_TEXT_BYTES}
 use Rattle.schedule_check.specs.declared.entry.Entry.TheVariants.{Nothing, Gives, Wrong}
 use Rattle.schedule_check.specs.declared.fault.StartsFault.TheVariants as faults
-use Rattle.schedule_check.specs.Starts.{entries, start_in, start_given, starts_given, or_else, entry_fault, line_fault, missing_fault, starts_fault, GivesStartOf, gives, IsStartsText, spaces, given, entry_of, line_entries, is_answer, starts_of, first_fault, with_entries, Entry, StartsFault}
+use Rattle.schedule_check.specs.Starts.{entries, start_in, start_given, starts_given, or_else, entry_fault, line_fault}
+use Rattle.schedule_check.specs.Starts.{missing_fault, starts_fault, GivesStartOf, gives, IsStartsText, spaces, given}
+use Rattle.schedule_check.specs.Starts.{entry_of, line_entries, is_answer, starts_of, first_fault, with_entries, Entry}
+use Rattle.schedule_check.specs.Starts.{StartsFault}
 use Rattle.schedule_check.proofs.Tables.{given_later, given_at, given_length, fine_parts, both_none, none_missing, same_first_fault, all_entries}
 use Rattle.std.specs.Str.Lines.{lines, lines_of_parts, strip_carriage_return}
 use Rattle.std.proofs.lemmas.Int.{ints}
@@ -37,7 +43,8 @@ right_from n before line (e ∷ es) fine =
     right (Gives b s) h = ltb-true b n (fine_parts b line (ltb b n) (is_some (start_given before b)) h).0
 
 -- how often an activity was given a start, with one entry more
-add_given : (g s : Option ℤ) (k : ℕ) → (is_some s ≡ true → is_some g ≡ false) → cond (is_some (cond (is_some g) g s)) 1 0 + k ≤ 1 → cond (is_some g) 1 0 + (cond (is_some s) 1 0 + k) ≤ 1
+add_given : (g s : Option ℤ) (k : ℕ) → (is_some s ≡ true → is_some g ≡ false)
+    → cond (is_some (cond (is_some g) g s)) 1 0 + k ≤ 1 → cond (is_some g) 1 0 + (cond (is_some s) 1 0 + k) ≤ 1
 add_given (Some g) (Some s) k first h = absurd (let bad = first refl in cc)
 add_given g s k first h = omega arith
 
@@ -51,7 +58,8 @@ same_number : (b a : ℕ) → eqb b a ≡ true → b ≡ a
 same_number b a h = grind (arith, nat_tests)
 
 -- an entry without a fault gives an activity its first start
-is_first : (n : ℕ) (before : List Entry) (line a : ℕ) (e : Entry) → entry_fault n before line e ≡ None → is_some (start_in a e) ≡ true → is_some (start_given before a) ≡ false
+is_first : (n : ℕ) (before : List Entry) (line a : ℕ) (e : Entry) → entry_fault n before line e ≡ None
+    → is_some (start_in a e) ≡ true → is_some (start_given before a) ≡ false
 is_first n before line a Nothing fine h = absurd (cc)
 is_first n before line a Wrong fine h = absurd (cc)
 is_first n before line a (Gives b s) fine h =
@@ -62,7 +70,8 @@ is_first n before line a (Gives b s) fine h =
     named true k = refl
     named false k = absurd (cc)
 
-once_from : (n : ℕ) (before : List Entry) (line : ℕ) (es : List Entry) (a : ℕ) → line_fault n before line es ≡ None → cond (is_some (start_given before a)) 1 0 + count_by (gives a) es ≤ 1
+once_from : (n : ℕ) (before : List Entry) (line : ℕ) (es : List Entry) (a : ℕ) → line_fault n before line es ≡ None
+    → cond (is_some (start_given before a)) 1 0 + count_by (gives a) es ≤ 1
 once_from n before line [] a fine = at_most (is_some (start_given before a))
   where
     at_most : (b : Bool) → cond b 1 0 + 0 ≤ 1
@@ -71,12 +80,15 @@ once_from n before line [] a fine = at_most (is_some (start_given before a))
 once_from n before line (e ∷ es) a fine =
     let parts = both_none (entry_fault n before line e) (line_fault n (before ++ e ∷ []) (line + 1) es) fine in
     let rest : cond (is_some (start_given (before ++ e ∷ []) a)) 1 0 + count_by (gives a) es ≤ 1 = once_from n (before ++ e ∷ []) (line + 1) es a parts.1 in
-    let more : cond (is_some (cond (is_some (start_given before a)) (start_given before a) (start_in a e))) 1 0 + count_by (gives a) es ≤ 1 = rw (given_later before e a) at rest in
+    let more : cond (is_some (cond (is_some (start_given before a)) (start_given before a) (start_in a e))) 1 0 +
+    count_by (gives a) es ≤ 1 = rw (given_later before e a) at rest in
     rw (count-cons a e es) (add_given (start_given before a) (start_in a e) (count_by (gives a) es) (is_first n before line a e parts.0) more)
 
 -- ---- and lines that are right and give none two have no fault
 
-fine_from : (n : ℕ) (before : List Entry) (line : ℕ) (es : List Entry) → AllByRecursion (GivesStartOf n) es → ((a : ℕ) → a < n → cond (is_some (start_given before a)) 1 0 + count_by (gives a) es ≤ 1) → line_fault n before line es ≡ None
+fine_from : (n : ℕ) (before : List Entry) (line : ℕ) (es : List Entry) → AllByRecursion (GivesStartOf n) es
+    → ((a : ℕ) → a < n → cond (is_some (start_given before a)) 1 0 + count_by (gives a) es ≤ 1)
+    → line_fault n before line es ≡ None
 fine_from n before line [] right once = refl
 fine_from n before line (e ∷ es) right once =
     let here : entry_fault n before line e ≡ None = fine e right.0 (λ a lt. rw (count-cons a e es) at (once a lt)) in
@@ -84,7 +96,9 @@ fine_from n before line (e ∷ es) right once =
     rw (given_later before e a) (take_given (start_given before a) (start_in a e) (count_by (gives a) es) (rw (count-cons a e es) at (once a lt)))) in
     rw here rest
   where
-    fine : (e : Entry) → GivesStartOf n e → ((a : ℕ) → a < n → cond (is_some (start_given before a)) 1 0 + (cond (gives a e) 1 0 + count_by (gives a) es) ≤ 1) → entry_fault n before line e ≡ None
+    fine : (e : Entry) → GivesStartOf n e →
+        ((a : ℕ) → a < n → cond (is_some (start_given before a)) 1 0 + (cond (gives a e) 1 0 + count_by (gives a) es) ≤
+        1) → entry_fault n before line e ≡ None
     fine Nothing r h = refl
     fine Wrong r h = absurd r
     fine (Gives b s) r h =
@@ -103,7 +117,8 @@ counted : (es : List Entry) (a : ℕ) → is_some (start_given es a) ≡ true �
 counted [] a h = absurd (cc)
 counted (e ∷ es) a h = rw (count-cons a e es) (by (start_in a e) (counted es a) h)
   where
-    by : (o : Option ℤ) → (is_some (start_given es a) ≡ true → 1 ≤ count_by (gives a) es) → is_some (cond (is_some o) o (start_given es a)) ≡ true → 1 ≤ cond (is_some o) 1 0 + count_by (gives a) es
+    by : (o : Option ℤ) → (is_some (start_given es a) ≡ true → 1 ≤ count_by (gives a) es)
+        → is_some (cond (is_some o) o (start_given es a)) ≡ true → 1 ≤ cond (is_some o) 1 0 + count_by (gives a) es
     by None rest k = omega (arith, rest k)
     by (Some s) rest k = omega arith
 
@@ -111,7 +126,8 @@ given_by_count : (es : List Entry) (a : ℕ) → 1 ≤ count_by (gives a) es →
 given_by_count [] a h = absurd (omega arith)
 given_by_count (e ∷ es) a h = by (start_in a e) (given_by_count es a) (rw (count-cons a e es) at h)
   where
-    by : (o : Option ℤ) → (1 ≤ count_by (gives a) es → is_some (start_given es a) ≡ true) → 1 ≤ cond (is_some o) 1 0 + count_by (gives a) es → is_some (cond (is_some o) o (start_given es a)) ≡ true
+    by : (o : Option ℤ) → (1 ≤ count_by (gives a) es → is_some (start_given es a) ≡ true)
+        → 1 ≤ cond (is_some o) 1 0 + count_by (gives a) es → is_some (cond (is_some o) o (start_given es a)) ≡ true
     by None rest k = rest (omega arith)
     by (Some s) rest k = refl
 
@@ -128,7 +144,9 @@ given_all : (n : ℕ) (es : List Entry) (a : ℕ) → missing_fault (starts_give
 given_all n es a fine lt =
     let found : List (Option ℤ) = starts_given n es in
     let long : length found ≡ n = given_length n es in
-    let past : length found ≤ position_or_len is_none found = ltb-false (position_or_len is_none found) (length found) (no_place (ltb (position_or_len is_none found) (length found)) fine) in
+    let past : length found ≤ position_or_len is_none found =
+    ltb-false (position_or_len is_none found) (length found)
+    (no_place (ltb (position_or_len is_none found) (length found)) fine) in
     let here : is_none (get_or found a None) ≡ false = fails_before_first is_none found a None (omega arith) in
     none_or_some (start_given es a) (rw (given_at n es a lt) at here)
   where
@@ -148,7 +166,8 @@ short_enough false o h = (refl, h)
 
 pub IsStartsText-from_fault : (n : ℕ) (text : List ℕ) → starts_fault n text ≡ None → IsStartsText n text
 IsStartsText-from_fault n text fine =
-    let parts = short_enough (ltb MAX_TEXT_BYTES (length text)) (or_else (line_fault n [] 1 (entries text)) (missing_fault (starts_given n (entries text)))) fine in
+    let parts = short_enough (ltb MAX_TEXT_BYTES (length text))
+    (or_else (line_fault n [] 1 (entries text)) (missing_fault (starts_given n (entries text)))) fine in
     let both = both_none (line_fault n [] 1 (entries text)) (missing_fault (starts_given n (entries text))) parts.1 in
     record {
       short = ltb-false MAX_TEXT_BYTES (length text) parts.0;
@@ -173,21 +192,27 @@ short_text : (text : List ℕ) → length text ≤ MAX_TEXT_BYTES → ltb MAX_TE
 short_text text short = le-ltb MAX_TEXT_BYTES (length text) short
 
 -- the first fault of the lines, as the code finds it from an empty table on
-pub lines_fault : (n : ℕ) (text : List ℕ) (found : List (Option ℤ)) (fault : Option StartsFault) → found ≡ starts_given n [] → fault ≡ first_fault found 1 (entries text) → line_fault n [] 1 (entries text) ≡ fault
+pub lines_fault : (n : ℕ) (text : List ℕ) (found : List (Option ℤ)) (fault : Option StartsFault)
+    → found ≡ starts_given n [] → fault ≡ first_fault found 1 (entries text) → line_fault n [] 1 (entries text) ≡ fault
 lines_fault n text found fault empty is =
     sym (is ∙ ap (λ (t : List (Option ℤ)). first_fault t 1 (entries text)) empty ∙ same_first_fault n [] 1 (entries text))
 
 -- the table after lines that have no fault
-pub lines_table : (n : ℕ) (text : List ℕ) (found after : List (Option ℤ)) → found ≡ starts_given n [] → line_fault n [] 1 (entries text) ≡ None → after ≡ with_entries found (entries text) → after ≡ starts_given n (entries text)
+pub lines_table : (n : ℕ) (text : List ℕ) (found after : List (Option ℤ)) → found ≡ starts_given n []
+    → line_fault n [] 1 (entries text) ≡ None → after ≡ with_entries found (entries text)
+    → after ≡ starts_given n (entries text)
 lines_table n text found after empty fine put =
     put ∙ ap (λ (t : List (Option ℤ)). with_entries t (entries text)) empty ∙ all_entries n [] 1 (entries text) fine
 
 -- the fault of a text is that of its lines
-pub fault_of_lines : (n : ℕ) (text : List ℕ) (fault : StartsFault) → length text ≤ MAX_TEXT_BYTES → line_fault n [] 1 (entries text) ≡ Some fault → starts_fault n text ≡ Some fault
+pub fault_of_lines : (n : ℕ) (text : List ℕ) (fault : StartsFault) → length text ≤ MAX_TEXT_BYTES
+    → line_fault n [] 1 (entries text) ≡ Some fault → starts_fault n text ≡ Some fault
 fault_of_lines n text fault short has = rw (short_text text short, has) refl
 
 -- and where they have none, that of the table
-pub fault_of_table : (n : ℕ) (text : List ℕ) (table : List (Option ℤ)) (fault : Option StartsFault) → length text ≤ MAX_TEXT_BYTES → line_fault n [] 1 (entries text) ≡ None → table ≡ starts_given n (entries text) → missing_fault table ≡ fault → starts_fault n text ≡ fault
+pub fault_of_table : (n : ℕ) (text : List ℕ) (table : List (Option ℤ)) (fault : Option StartsFault)
+    → length text ≤ MAX_TEXT_BYTES → line_fault n [] 1 (entries text) ≡ None → table ≡ starts_given n (entries text)
+    → missing_fault table ≡ fault → starts_fault n text ≡ fault
 fault_of_table n text table fault short fine is missing =
     rw (short_text text short, fine, ← is) missing
 
@@ -208,7 +233,8 @@ given_timely a o h = tt
 
 entry_timely : (words : List (List ℕ)) → IsTimely (entry_of words)
 unfolding entry_of
-entry_timely (a ∷ s ∷ []) = given_timely (natural ACTIVITY_DIGITS a) (integer START_DIGITS s) (λ z spelled. time_of_digits z (integer-below START_DIGITS s z spelled))
+entry_timely (a ∷ s ∷ []) = given_timely (natural ACTIVITY_DIGITS a) (integer START_DIGITS s)
+    (λ z spelled. time_of_digits z (integer-below START_DIGITS s z spelled))
 entry_timely words = tt
 
 lines_timely : (ls : List (List ℕ)) → AllByRecursion IsTimely (line_entries ls)
@@ -237,7 +263,8 @@ start_timely (e ∷ es) activity all = first (start_in activity e) (in_entry e a
     in_entry (Gives named start) h = by_name (eqb named activity) start h
     in_entry e h = zero_time
 
-    first : (o : Option ℤ) → IsTime (unwrap_or o (pos 0)) → IsTime (unwrap_or (start_given es activity) (pos 0)) → IsTime (unwrap_or (cond (is_some o) o (start_given es activity)) (pos 0))
+    first : (o : Option ℤ) → IsTime (unwrap_or o (pos 0)) → IsTime (unwrap_or (start_given es activity) (pos 0))
+        → IsTime (unwrap_or (cond (is_some o) o (start_given es activity)) (pos 0))
     first None h rest = rest
     first (Some s) h rest = h
 
@@ -257,7 +284,8 @@ starts_count n text =
 -- ---- The lines of a text, from its front.
 
 -- a piece that others follow is a line
-line_of_part : (front : List ℕ) (others : List (List ℕ)) → 0 < length others → lines_of_parts (front ∷ others) ≡ strip_carriage_return front ∷ lines_of_parts others
+line_of_part : (front : List ℕ) (others : List (List ℕ)) → 0 < length others
+    → lines_of_parts (front ∷ others) ≡ strip_carriage_return front ∷ lines_of_parts others
 line_of_part front [] some = absurd (omega arith)
 line_of_part front (next ∷ others) some = refl
 

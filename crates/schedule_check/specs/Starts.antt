@@ -1,6 +1,8 @@
 -- The text of starts, line by line: which texts give each activity a start, and the first fault of
 -- those that don't.
-use Rattle.std.specs.Prelude.{◌≡◌, ◌≤◌, ◌<◌, ℕ, ◌+◌, nat_lt, ◌==◌, Bool, ◌||◌, List, [], ◌∷◌, ◌++◌, length, drop, map, ℤ, pos, Option, Some, None, is_some, codes, if◌then◌else◌, nat_eq, position, unwrap_or, is_none, slice_index_or, slice_set}
+use Rattle.std.specs.Prelude.{◌≡◌, ◌≤◌, ◌<◌, ℕ, ◌+◌, nat_lt, ◌==◌, Bool, ◌||◌, List, [], ◌∷◌, ◌++◌, length, drop, map}
+use Rattle.std.specs.Prelude.{ℤ, pos, Option, Some, None, is_some, codes, if◌then◌else◌, nat_eq, position, unwrap_or}
+use Rattle.std.specs.Prelude.{is_none, slice_index_or, slice_set}
 use Rattle.std.specs.List.{All, count_by, starts_with, range_with_len}
 use Rattle.std.specs.Option.{option_map}
 use Rattle.std.specs.Str.Lines.{lines}

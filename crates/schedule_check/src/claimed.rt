@@ -14,7 +14,7 @@ use std::alloc::Global;
 /// The starts are wrong.
 const WRONG: RecordFault = RecordFault {
     line: 3,
-    why: RecordFaultKind::Start,
+    kind: RecordFaultKind::Start,
 };
 
 /// Checks that the starts in a record are a feasible schedule of the makespan that is claimed.
@@ -27,7 +27,7 @@ pub fn check_claimed(
     requires { AllByRecursion IsWritableTime starts.now }
     ensures right { OnOk result (HasMakespan project.now starts.now makespan) }
     ensures fault { IfErr result
-        (λ fault. fault.why ≢ Memory → HasWrongStarts (HasMakespan project.now starts.now makespan) fault) }
+        (λ fault. fault.kind ≢ Memory → HasWrongStarts (HasMakespan project.now starts.now makespan) fault) }
 {
     let count = project.activity_count();
     if starts.len() != count || starts[count - 1] != makespan {

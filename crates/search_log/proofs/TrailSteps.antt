@@ -1,5 +1,7 @@
 -- What becomes of a right trail when a node ends.
-use Rattle.std.proofs.Common.{◌≡◌, ℕ, zero, suc, ◌-◌, ◌+◌, ◌<◌, ◌≤◌, Bool, true, false, cond, List, [], ◌∷◌, ◌++◌, length, map, get_or, refl, sym, ap, ◌∙◌, subst, arith, ◌⊎◌, inl, inr, ⊎_elim, length-append, Option, Some, None, ℤ, IfSome, MatchOption}
+use Rattle.std.proofs.Common.{◌≡◌, ℕ, zero, suc, ◌-◌, ◌+◌, ◌<◌, ◌≤◌, Bool, true, false, cond, List, [], ◌∷◌, ◌++◌}
+use Rattle.std.proofs.Common.{length, map, get_or, refl, sym, ap, ◌∙◌, subst, arith, ◌⊎◌, inl, inr, ⊎_elim}
+use Rattle.std.proofs.Common.{length-append, Option, Some, None, ℤ, IfSome, MatchOption}
 use Rattle.std.specs.List.{count_by}
 use Rattle.std.proofs.lemmas.Bool.{cases_lt}
 use Rattle.std.proofs.Math.Seq.{get_or-append_right}
@@ -18,7 +20,8 @@ use Rattle.forbidden_sets.specs.MinimalSet.{MinimalSet}
 use Rattle.branching.specs.Right.{Reaches, IsInTime, IsRightSet, IsCutUnder, IsSolvedUnder}
 use Rattle.branching.specs.Fair.{Expansion, IsFoundFor, IsReport, IsSplitBy, IsUnsplit}
 
-pub ended_forced : (entries : List Entry) (name : ℕ) (ending : Ending) (n : ℕ) → (entry_at (ended_as entries name ending) n).forced ≡ (entry_at entries n).forced
+pub ended_forced : (entries : List Entry) (name : ℕ) (ending : Ending) (n : ℕ)
+    → (entry_at (ended_as entries name ending) n).forced ≡ (entry_at entries n).forced
 ended_forced [] name ending n = refl
 ended_forced (e ∷ es) zero ending zero = refl
 ended_forced (e ∷ es) zero ending (suc n) = refl
@@ -26,18 +29,24 @@ ended_forced (e ∷ es) (suc name) ending zero = refl
 ended_forced (e ∷ es) (suc name) ending (suc n) = ended_forced es name ending n
 
 -- the entry of this name has this ending, the others have theirs
-pub ended_cases : (entries : List Entry) (name : ℕ) (ending : Ending) (n : ℕ) → ((n ≡ name) × ((entry_at (ended_as entries name ending) n).ending ≡ ending)) ⊎ ((entry_at (ended_as entries name ending) n).ending ≡ (entry_at entries n).ending)
+pub ended_cases : (entries : List Entry) (name : ℕ) (ending : Ending) (n : ℕ)
+    → ((n ≡ name) × ((entry_at (ended_as entries name ending) n).ending ≡ ending))
+    ⊎ ((entry_at (ended_as entries name ending) n).ending ≡ (entry_at entries n).ending)
 ended_cases [] name ending n = inr refl
 ended_cases (e ∷ es) zero ending zero = inl (refl, refl)
 ended_cases (e ∷ es) zero ending (suc n) = inr refl
 ended_cases (e ∷ es) (suc name) ending zero = inr refl
-ended_cases (e ∷ es) (suc name) ending (suc n) = ⊎_elim (λ (h : (n ≡ name) × ((entry_at (ended_as es name ending) n).ending ≡ ending)). inl (ap suc h.0, h.1)) (λ (h : (entry_at (ended_as es name ending) n).ending ≡ (entry_at es n).ending). inr h) (ended_cases es name ending n)
+ended_cases (e ∷ es) (suc name) ending (suc n) =
+    ⊎_elim (λ (h : (n ≡ name) × ((entry_at (ended_as es name ending) n).ending ≡ ending)). inl (ap suc h.0, h.1))
+    (λ (h : (entry_at (ended_as es name ending) n).ending ≡ (entry_at es n).ending). inr h)
+    (ended_cases es name ending n)
 
 pub length_ended : (entries : List Entry) (name : ℕ) (ending : Ending) → length (ended_as entries name ending) ≡ length entries
 length_ended entries name ending = length-set entries name _
 
 -- what comes later leaves the entry that ends
-pub ended_append : (entries more : List Entry) (name : ℕ) (ending : Ending) → name < length entries → ended_as (entries ++ more) name ending ≡ ended_as entries name ending ++ more
+pub ended_append : (entries more : List Entry) (name : ℕ) (ending : Ending) → name < length entries
+    → ended_as (entries ++ more) name ending ≡ ended_as entries name ending ++ more
 ended_append [] more name ending known = absurd (omega (arith, known))
 ended_append (e ∷ entries) more zero ending known = refl
 ended_append (e ∷ entries) more (suc name) ending known = ap (λ (es : List Entry). e ∷ es) (ended_append entries more name ending (omega (arith, known)))
@@ -50,29 +59,39 @@ extends_grown entries name ending more =
     record {
       longer = omega (arith, length-append ended more, same);
       path = λ n known. path_kept ended more n (omega (arith, same, known)) ∙ ap (λ paths. get_or paths n []) (ended_paths [] entries name ending);
-      forced = λ n known. ap (λ (e : Entry). e.forced) (get_or_append_left ended more no_entry n (omega (arith, same, known))) ∙ ended_forced entries name ending n;
+      forced = λ n known. ap (λ (e : Entry). e.forced)
+          (get_or_append_left ended more no_entry n (omega (arith, same, known))) ∙ ended_forced entries name ending n;
     }
 
-grown_rooted : (p : Problem) (entries : List Entry) (name : ℕ) (ending : Ending) (more : List Entry) → name < length entries → IsRooted p entries → IsRooted p (ended_as entries name ending ++ more)
+grown_rooted : (p : Problem) (entries : List Entry) (name : ℕ) (ending : Ending) (more : List Entry)
+    → name < length entries → IsRooted p entries → IsRooted p (ended_as entries name ending ++ more)
 grown_rooted p [] name ending more known rooted = absurd (omega (arith, known))
 grown_rooted p (root ∷ entries) zero ending more known rooted = rooted
 grown_rooted p (root ∷ entries) (suc name) ending more known rooted = rooted
 
 -- where a name ends rightly and what comes is open, the trail stays right
-pub trail_grown : (p : Problem) (limit : Option ℤ) (entries : List Entry) (name : ℕ) (ending : Ending) (more : List Entry) → name < length entries → IsRightTrail p limit entries
-    → IsRightEnding p limit (ended_as entries name ending ++ more) name ending → ((n : ℕ) → (entry_at more n).ending ≡ not_ended) → IsRightTrail p limit (ended_as entries name ending ++ more)
+pub trail_grown : (p : Problem) (limit : Option ℤ) (entries : List Entry) (name : ℕ) (ending : Ending)
+    (more : List Entry) → name < length entries → IsRightTrail p limit entries
+    → IsRightEnding p limit (ended_as entries name ending ++ more) name ending
+    → ((n : ℕ) → (entry_at more n).ending ≡ not_ended) → IsRightTrail p limit (ended_as entries name ending ++ more)
 trail_grown p limit entries name ending more known right own all_open = record {
   rooted = grown_rooted p entries name ending more known right.rooted;
   endings = λ n there.
       ⊎_elim
       (λ (early : n < length entries).
-      subst (IsRightEnding p limit (ended_as entries name ending ++ more) n) (sym (ap (λ (e : Entry). e.ending) (get_or_append_left (ended_as entries name ending) more no_entry n (omega (arith, same, early)))))
+      subst (IsRightEnding p limit (ended_as entries name ending ++ more) n)
+      (sym (ap (λ (e : Entry). e.ending) (get_or_append_left (ended_as entries name ending) more no_entry n
+      (omega (arith, same, early)))))
       (⊎_elim
       (λ (h : (n ≡ name) × ((entry_at (ended_as entries name ending) n).ending ≡ ending)). rw (h.1, h.0) own)
-      (λ (h : (entry_at (ended_as entries name ending) n).ending ≡ (entry_at entries n).ending). rw h (ending_extends p limit entries (ended_as entries name ending ++ more) n (entry_at entries n).ending (extends_grown entries name ending more) early (right.endings n early)))
+      (λ (h : (entry_at (ended_as entries name ending) n).ending ≡ (entry_at entries n).ending).
+      rw h (ending_extends p limit entries (ended_as entries name ending ++ more) n (entry_at entries n).ending
+      (extends_grown entries name ending more) early (right.endings n early)))
       (ended_cases entries name ending n)))
       (λ (late : length entries ≤ n).
-      subst (IsRightEnding p limit (ended_as entries name ending ++ more) n) (sym (ap (λ (e : Entry). e.ending) (get_or-append_right (ended_as entries name ending) more n no_entry (omega (arith, same, late))) ∙ all_open (n - length (ended_as entries name ending)))) tt)
+      subst (IsRightEnding p limit (ended_as entries name ending ++ more) n)
+      (sym (ap (λ (e : Entry). e.ending) (get_or-append_right (ended_as entries name ending) more n no_entry
+      (omega (arith, same, late))) ∙ all_open (n - length (ended_as entries name ending)))) tt)
       (cases_lt n (length entries));
 }
   where
@@ -89,7 +108,10 @@ children_open name depth (child ∷ children) (suc n) = children_open name depth
 abbrev pub one_ended : Entry → ℕ
 one_ended e = cond (has_ended e.ending) 1 0
 
-pub count_ended : (entries : List Entry) (name : ℕ) (ending : Ending) → name < length entries → (entry_at entries name).ending ≡ not_ended → has_ended ending ≡ true → count_by (λ (e : Entry). has_ended e.ending) (ended_as entries name ending) ≡ count_by (λ (e : Entry). has_ended e.ending) entries + 1
+pub count_ended : (entries : List Entry) (name : ℕ) (ending : Ending) → name < length entries
+    → (entry_at entries name).ending ≡ not_ended → has_ended ending ≡ true
+    → count_by (λ (e : Entry). has_ended e.ending) (ended_as entries name ending) ≡ count_by
+    (λ (e : Entry). has_ended e.ending) entries + 1
 count_ended [] name ending known is_open ends = absurd (omega (arith, known))
 count_ended (e ∷ es) zero ending known is_open ends =
     let before = sum_by-cons one_ended e es in
@@ -104,7 +126,12 @@ count_ended (e ∷ es) (suc name) ending known is_open ends =
 
 pub count_children : (name depth : ℕ) (children : List Subproblem) → count_by (λ (e : Entry). has_ended e.ending) (map (child_entry name depth) children) ≡ 0
 count_children name depth [] = refl
-count_children name depth (child ∷ children) = omega (arith, sum_by-cons one_ended (child_entry name depth child) (map (child_entry name depth) children), count_children name depth children)
+count_children name depth (child ∷ children) =
+    omega (
+      arith,
+      sum_by-cons one_ended (child_entry name depth child) (map (child_entry name depth) children),
+      count_children name depth children,
+    )
 
 count_at_most : (entries : List Entry) → count_by (λ (e : Entry). has_ended e.ending) entries ≤ length entries
 count_at_most [] = omega arith
@@ -115,11 +142,14 @@ count_at_most (e ∷ es) = omega (arith, sum_by-cons one_ended e es, at_most (ha
     at_most false = omega arith
 
 -- where as many ended as there are, each has
-pub all_ended : (entries : List Entry) → count_by (λ (e : Entry). has_ended e.ending) entries ≡ length entries → (name : ℕ) → name < length entries → has_ended (entry_at entries name).ending ≡ true
+pub all_ended : (entries : List Entry) → count_by (λ (e : Entry). has_ended e.ending) entries ≡ length entries
+    → (name : ℕ) → name < length entries → has_ended (entry_at entries name).ending ≡ true
 all_ended [] e name known = absurd (omega (arith, known))
 all_ended (x ∷ es) e name known = parts (all_ended es) (has_ended x.ending) refl name known
   where
-    parts : (count_by (λ (e : Entry). has_ended e.ending) es ≡ length es → (name : ℕ) → name < length es → has_ended (entry_at es name).ending ≡ true) → (b : Bool) → has_ended x.ending ≡ b → (name : ℕ) → name < length (x ∷ es) → has_ended (entry_at (x ∷ es) name).ending ≡ true
+    parts : (count_by (λ (e : Entry). has_ended e.ending) es ≡ length es → (name : ℕ) → name < length es
+        → has_ended (entry_at es name).ending ≡ true) → (b : Bool) → has_ended x.ending ≡ b → (name : ℕ)
+        → name < length (x ∷ es) → has_ended (entry_at (x ∷ es) name).ending ≡ true
     parts rest true is zero known = is
     parts rest true is (suc name) known =
         let one : ◌≡◌ {A = ℕ} (one_ended x) 1 = ap (λ (b : Bool). let n : ℕ = cond b 1 0 in n) is in
@@ -130,8 +160,12 @@ all_ended (x ∷ es) e name known = parts (all_ended es) (has_ended x.ending) re
 
 -- ---- How the node of a report ends is right.
 
-unsplit_right : (p : Problem) (limit : Option ℤ) (report : Expansion) (name : ℕ) (entries : List Entry) (fates : List (FateOf ℕ)) → IsReport report → report.node.project ≡ p → IsInTime report.ceiling limit → path_to entries name ≡ report.node.pairs
-    → (found : Option ScheduleOf) → IfSome found (IsFoundFor report.node) → MatchOption found (IsCutUnder report.node.project report.node.pairs report.ceiling) (λ f. IsLeastSchedule report.node.project report.node.pairs f.starts)
+unsplit_right : (p : Problem) (limit : Option ℤ) (report : Expansion) (name : ℕ) (entries : List Entry)
+    (fates : List (FateOf ℕ)) → IsReport report → report.node.project ≡ p → IsInTime report.ceiling limit
+    → path_to entries name ≡ report.node.pairs
+    → (found : Option ScheduleOf) → IfSome found (IsFoundFor report.node)
+    → MatchOption found (IsCutUnder report.node.project report.node.pairs report.ceiling)
+    (λ f. IsLeastSchedule report.node.project report.node.pairs f.starts)
     → IfSome found (λ f. Reaches limit (makespan f.starts)) → IsRightEnding p limit entries name (ending_by None found fates)
 unsplit_right p limit report name entries fates told same less path None of_found is reach =
     rw path (cut_falls p report.ceiling limit report.node.pairs less (subst (λ (p : Problem). IsCutUnder p report.node.pairs report.ceiling) same is))
@@ -142,9 +176,12 @@ unsplit_right p (Some limit) report name entries fates told same less path (Some
     (record { is_live = told.is_node.is_live; starts = f.starts; least = is; feasible = of_found.stands.feasible; reaches = reach }))
 
 -- how the node of a report ends is right
-pub ending_right : (p : Problem) (limit : Option ℤ) (report : Expansion) (name : ℕ) (before : List Entry) → IsReport report → report.node.project ≡ p → IsInTime report.ceiling limit → name < length before → path_to before name ≡ report.node.pairs
+pub ending_right : (p : Problem) (limit : Option ℤ) (report : Expansion) (name : ℕ) (before : List Entry)
+    → IsReport report → report.node.project ≡ p → IsInTime report.ceiling limit → name < length before
+    → path_to before name ≡ report.node.pairs
     → IfSome report.found (λ f. Reaches limit (makespan f.starts))
-    → IsRightEnding p limit (before ++ map (child_entry name (length report.node.pairs)) (children_below limit report.children)) name (ending_of limit (length before) report)
+    → IsRightEnding p limit (before ++ map (child_entry name (length report.node.pairs))
+    (children_below limit report.children)) name (ending_of limit (length before) report)
 ending_right p limit report name before told same less known path reach = parts report.split told.told
   where
     entries : List Entry
@@ -156,7 +193,8 @@ ending_right p limit report name before told same less known path reach = parts 
     whole_path : path_to entries name ≡ report.node.pairs
     whole_path = path_kept before (map (child_entry name (length report.node.pairs)) (children_below limit report.children)) name known ∙ path
 
-    parts : (split : Option MinimalSet) → MatchOption split (IsUnsplit report) (IsSplitBy report) → IsRightEnding p limit entries name (ending_by split report.found fates)
+    parts : (split : Option MinimalSet) → MatchOption split (IsUnsplit report) (IsSplitBy report)
+        → IsRightEnding p limit entries name (ending_by split report.found fates)
     parts None is = unsplit_right p limit report name entries fates told same less whole_path report.found told.fair.of_found is.of_found reach
     parts (Some set) is = (
       rw whole_path (subst (λ (p : Problem). IsLive p report.node.pairs) same told.is_node.is_live),

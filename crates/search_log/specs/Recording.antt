@@ -1,5 +1,6 @@
 -- What becomes of a trail when a node that it tells of ends, and when children are opened.
-use Rattle.std.specs.Prelude.{ℕ, ◌+◌, ◌<◌, ◌^◌, ℤ, Bool, true, false, if◌then◌else◌, Option, None, Some, option_map, List, [], ◌∷◌, ◌++◌, map, length, drop, slice_get, slice_set}
+use Rattle.std.specs.Prelude.{ℕ, ◌+◌, ◌<◌, ◌^◌, ℤ, Bool, true, false, if◌then◌else◌, Option, None, Some, option_map}
+use Rattle.std.specs.Prelude.{List, [], ◌∷◌, ◌++◌, map, length, drop, slice_get, slice_set}
 use Rattle.network.specs.declared.parts.Pair.{Pair}
 use Rattle.network.specs.Schedule.{ScheduleOf}
 use Rattle.forbidden_sets.specs.MinimalSet.{MinimalSet}

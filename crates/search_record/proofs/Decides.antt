@@ -1,5 +1,7 @@
 -- What a node's matrix decides of a line.
-use Rattle.std.proofs.Common.{◌≡◌, sym, ap, ◌∙◌, subst, ℕ, ◌<◌, ◌≤◌, arith, ℤ, pos, ◌+ℤ◌, ◌≤ℤ◌, ◌<ℤ◌, List, length, Option, None, Some, false, ◌+◌, [], ◌∷◌, ◌++◌, take, length-append, append_assoc, ◌↔◌, IsTrue, neg_ℤ}
+use Rattle.std.proofs.Common.{◌≡◌, sym, ap, ◌∙◌, subst, ℕ, ◌<◌, ◌≤◌, arith, ℤ, pos, ◌+ℤ◌, ◌≤ℤ◌, ◌<ℤ◌, List, length}
+use Rattle.std.proofs.Common.{Option, None, Some, false, ◌+◌, [], ◌∷◌, ◌++◌, take, length-append, append_assoc, ◌↔◌}
+use Rattle.std.proofs.Common.{IsTrue, neg_ℤ}
 use Rattle.std.specs.Int.Signed.{lt_z, le_z}
 use Rattle.std.proofs.lemmas.Int.{ints}
 use Rattle.std.proofs.lemmas.Bool.{false≢true}
@@ -48,7 +50,8 @@ weight_is arcs a b x (Some y) of_x of =
     let same : y ≡ x = omega (arith, ints) in
     ap Some same
 
-pub too_late : (p : Problem) (pairs : List Pair) (pair : Pair) (rows : Rows) (w : ℤ) → IsProjectMatrix p pairs rows → pair.before < activity_count p → pair.after < activity_count p → entry rows pair.before pair.after ≡ Some w →
+pub too_late : (p : Problem) (pairs : List Pair) (pair : Pair) (rows : Rows) (w : ℤ) → IsProjectMatrix p pairs rows
+    → pair.before < activity_count p → pair.after < activity_count p → entry rows pair.before pair.after ≡ Some w →
     IsTrue (lt_z (pos 0) (w +ℤ duration p pair.after)) ↔ IsTooLateFor p pairs pair
 too_late p pairs pair rows w m before after e =
     let at : IsGreatestWeight (arcs_of p pairs) pair.before pair.after (Some w) = rw e at (m.matrix.greatest pair.before pair.after before after) in (
@@ -58,16 +61,27 @@ too_late p pairs pair rows w m before after e =
           test_late (duration p pair.after) w (rw same late.above),
     )
 
-pub not_late : (p : Problem) (pairs : List Pair) (pair : Pair) (rows : Rows) → IsProjectMatrix p pairs rows → pair.before < activity_count p → pair.after < activity_count p → entry rows pair.before pair.after ≡ None → ¬ IsTooLateFor p pairs pair
+pub not_late : (p : Problem) (pairs : List Pair) (pair : Pair) (rows : Rows) → IsProjectMatrix p pairs rows
+    → pair.before < activity_count p → pair.after < activity_count p → entry rows pair.before pair.after ≡ None
+    → ¬ IsTooLateFor p pairs pair
 not_late p pairs pair rows m before after e late =
-    let none : None ≡ Some late.weight = sym e ∙ weight_is (arcs_of p pairs) pair.before pair.after late.weight (entry rows pair.before pair.after) late.greatest (m.matrix.greatest pair.before pair.after before after) in
+    let none : None ≡ Some late.weight = sym e
+    ∙ weight_is (arcs_of p pairs) pair.before pair.after late.weight (entry rows pair.before pair.after)
+    late.greatest (m.matrix.greatest pair.before pair.after before after) in
     cc
 
 -- ---- the bound
 
-pub cut_by : (p : Problem) (pairs : List Pair) (rows : Rows) (limit bound : ℤ) → IsProjectMatrix p pairs rows → IsBoundOf p rows bound → IsTrue (le_z limit bound) ↔ IsCut p pairs limit
+pub cut_by : (p : Problem) (pairs : List Pair) (rows : Rows) (limit bound : ℤ) → IsProjectMatrix p pairs rows
+    → IsBoundOf p rows bound → IsTrue (le_z limit bound) ↔ IsCut p pairs limit
 cut_by p pairs rows limit bound m bound_of = (
-  λ test. record { is_live = m.matrix.no_cycle; bound = bound; bound_of = record { rows = rows; matrix = m; bound_of = bound_of }; reaches = le_test limit bound test },
+  λ test. record {
+    is_live = m.matrix.no_cycle;
+    bound = bound;
+    bound_of =
+        record { rows = rows; matrix = m; bound_of = bound_of };
+    reaches = le_test limit bound test;
+  },
   λ (cut : IsCut p pairs limit).
       let of : IsBoundOfPairs p pairs cut.bound = cut.bound_of in
       let same : of.rows ≡ rows = one_matrix (activity_count p) (arcs_of p pairs) of.rows rows of.matrix.matrix m.matrix in
@@ -88,17 +102,26 @@ least_is p pairs s t of_s of_t =
     let high : start t i ≤ℤ start s i = of_t.least s of_s.schedule of_s.keeps i known in
     omega (arith, ints))
 
-pub solved_by : (p : Problem) (pairs : List Pair) (rows : Rows) (starts : List ℤ) (limit : ℤ) → IsProjectMatrix p pairs rows → IsLeastSchedule p pairs starts → IsWithinCapacities p starts →
+pub solved_by : (p : Problem) (pairs : List Pair) (rows : Rows) (starts : List ℤ) (limit : ℤ)
+    → IsProjectMatrix p pairs rows → IsLeastSchedule p pairs starts → IsWithinCapacities p starts →
     IsTrue (le_z limit (makespan starts)) ↔ IsSolved p pairs limit
 solved_by p pairs rows starts limit m least within = (
-  λ test. record { is_live = m.matrix.no_cycle; starts = starts; least = least; feasible = record { schedule = least.schedule; within = within }; reaches = le_test limit (makespan starts) test },
+  λ test. record {
+    is_live = m.matrix.no_cycle;
+    starts = starts;
+    least = least;
+    feasible =
+        record { schedule = least.schedule; within = within };
+    reaches = le_test limit (makespan starts) test;
+  },
   λ (solved : IsSolved p pairs limit).
       let same : solved.starts ≡ starts = least_is p pairs solved.starts starts solved.least least in
       let here : limit ≤ℤ makespan starts = subst (λ (s : List ℤ). limit ≤ℤ makespan s) same solved.reaches in
       test_le limit (makespan starts) here,
 )
 
-pub not_solved : (p : Problem) (pairs : List Pair) (starts : List ℤ) (limit t : ℤ) (k : ℕ) → IsLeastSchedule p pairs starts → IsFirstOverload p starts t k → ¬ IsSolved p pairs limit
+pub not_solved : (p : Problem) (pairs : List Pair) (starts : List ℤ) (limit t : ℤ) (k : ℕ)
+    → IsLeastSchedule p pairs starts → IsFirstOverload p starts t k → ¬ IsSolved p pairs limit
 not_solved p pairs starts limit t k least found solved =
     let same : solved.starts ≡ starts = least_is p pairs solved.starts starts solved.least least in
     let within : IsWithinCapacities p starts = subst (λ (s : List ℤ). IsWithinCapacities p s) same solved.feasible.within in
@@ -113,5 +136,6 @@ dead_all p before [] some d = absurd (omega arith)
 dead_all p before (pair ∷ dead) some d =
     let long : length (before ++ pair ∷ []) ≡ length before + 1 = length-append before (pair ∷ []) in
     let first : before ++ pair ∷ [] ≡ take (length before + 1) (before ++ pair ∷ dead) =
-    sym (take-append_seam (before ++ pair ∷ []) dead) ∙ ap (λ n. take n ((before ++ pair ∷ []) ++ dead)) long ∙ ap (λ (l : List Pair). take (length before + 1) l) (append_assoc before (pair ∷ []) dead) in
+    sym (take-append_seam (before ++ pair ∷ []) dead) ∙ ap (λ n. take n ((before ++ pair ∷ []) ++ dead)) long
+    ∙ ap (λ (l : List Pair). take (length before + 1) l) (append_assoc before (pair ∷ []) dead) in
     cycle_before p (before ++ pair ∷ dead) (before ++ pair ∷ []) (length before + 1) first d

@@ -1,5 +1,6 @@
 -- The tree of a whole trail is right.
-use Rattle.std.proofs.Common.{◌≡◌, ℕ, zero, suc, ◌+◌, ◌<◌, ◌≤◌, true, List, [], ◌∷◌, ◌++◌, length, get_or, refl, sym, ap, ◌∙◌, subst, arith, append_assoc, append-nil, Option, Some, None, ℤ, IfSome}
+use Rattle.std.proofs.Common.{◌≡◌, ℕ, zero, suc, ◌+◌, ◌<◌, ◌≤◌, true, List, [], ◌∷◌, ◌++◌, length, get_or, refl, sym}
+use Rattle.std.proofs.Common.{ap, ◌∙◌, subst, arith, append_assoc, append-nil, Option, Some, None, ℤ, IfSome}
 use Rattle.std.specs.List.{All, AllZip}
 use Rattle.std.proofs.lemmas.List.Elements.{All-nil, All-cons, All-append}
 use Rattle.network.specs.declared.parts.Pair.{Pair}
@@ -29,14 +30,22 @@ pub record IsRightTree (p : Problem) (limit : Option ℤ) (pairs : List Pair) (t
   pub right : All (IsRightPlace p limit) (places pairs t)
 
 -- a leaf of one line
-leaf_right : (p : Problem) (limit : Option ℤ) (pairs : List Pair) (leaf : Tree) (line : Line) → IsTree leaf → places pairs leaf ≡ place pairs line ∷ [] → IsRightLine p limit pairs line → IsRightTree p limit pairs leaf
-leaf_right p limit pairs leaf line shape only right = record { shape = shape; right = rw only (All-cons (IsRightPlace p limit) (place pairs line) [] right (All-nil (IsRightPlace p limit))) }
+leaf_right : (p : Problem) (limit : Option ℤ) (pairs : List Pair) (leaf : Tree) (line : Line) → IsTree leaf
+    → places pairs leaf ≡ place pairs line ∷ [] → IsRightLine p limit pairs line → IsRightTree p limit pairs leaf
+leaf_right p limit pairs leaf line shape only right =
+    record {
+      shape = shape;
+      right = rw only
+          (All-cons (IsRightPlace p limit) (place pairs line) [] right (All-nil (IsRightPlace p limit)));
+    }
 
 -- right forced pairs, and a right tree below them
-forced_right : (p : Problem) (limit : Option ℤ) (pairs forced : List Pair) (t : Tree) → AllForced p pairs forced → IsRightTree p limit (pairs ++ forced) t → IsRightTree p limit pairs (with_forced forced t)
+forced_right : (p : Problem) (limit : Option ℤ) (pairs forced : List Pair) (t : Tree) → AllForced p pairs forced
+    → IsRightTree p limit (pairs ++ forced) t → IsRightTree p limit pairs (with_forced forced t)
 forced_right p limit pairs [] t all below = subst (λ (ps : List Pair). IsRightTree p limit ps t) (append-nil pairs) below
 forced_right p limit pairs (pair ∷ forced) t all below =
-    let others = forced_right p limit (pairs ++ pair ∷ []) forced t all.1 (subst (λ (ps : List Pair). IsRightTree p limit ps t) (sym (append_assoc pairs (pair ∷ []) forced)) below) in
+    let others = forced_right p limit (pairs ++ pair ∷ []) forced t all.1
+    (subst (λ (ps : List Pair). IsRightTree p limit ps t) (sym (append_assoc pairs (pair ∷ []) forced)) below) in
     record {
       shape = others.shape;
       right = All-cons (IsRightPlace p limit) (place pairs (kind.Force pair)) (places (pairs ++ pair ∷ []) (with_forced forced t)) all.0 others.right;
@@ -44,9 +53,12 @@ forced_right p limit pairs (pair ∷ forced) t all below =
 
 -- the trees under the names that come up are right
 abbrev NamedAreRight : Problem → Option ℤ → List Entry → ℕ → (ℕ → Tree) → Type 0
-NamedAreRight p limit entries name named = (pair : Pair) (later : ℕ) → IsChildUnder p entries name pair later → IsRightTree p limit (path_to entries name ++ pair ∷ []) (named later)
+NamedAreRight p limit entries name named = (pair : Pair) (later : ℕ) → IsChildUnder p entries name pair later
+    → IsRightTree p limit (path_to entries name ++ pair ∷ []) (named later)
 
-fate_right : (p : Problem) (limit : Option ℤ) (entries : List Entry) (name : ℕ) (named : ℕ → Tree) → NamedAreRight p limit entries name named → (pair : Pair) (fate : FateOf ℕ) → IsRightFate p limit entries name pair fate
+fate_right : (p : Problem) (limit : Option ℤ) (entries : List Entry) (name : ℕ) (named : ℕ → Tree)
+    → NamedAreRight p limit entries name named → (pair : Pair) (fate : FateOf ℕ)
+    → IsRightFate p limit entries name pair fate
     → IsRightTree p limit (path_to entries name ++ pair ∷ []) (fate_tree named fate)
 fate_right p limit entries name named later_right pair (is_child later) h = later_right pair later h
 fate_right p limit entries name named later_right pair (is_infeasible forced) h =
@@ -61,7 +73,9 @@ record AreRightChildren (p : Problem) (limit : Option ℤ) (pairs added : List P
   shapes : AreTrees children
   right : All (IsRightPlace p limit) (child_places pairs added children)
 
-fates_right : (p : Problem) (limit : Option ℤ) (entries : List Entry) (name : ℕ) (named : ℕ → Tree) → NamedAreRight p limit entries name named → (added : List Pair) (fates : List (FateOf ℕ)) → AllZip (IsRightFate p limit entries name) added fates
+fates_right : (p : Problem) (limit : Option ℤ) (entries : List Entry) (name : ℕ) (named : ℕ → Tree)
+    → NamedAreRight p limit entries name named → (added : List Pair) (fates : List (FateOf ℕ))
+    → AllZip (IsRightFate p limit entries name) added fates
     → AreRightChildren p limit (path_to entries name) added (fate_trees named fates)
 fates_right p limit entries name named later_right [] [] h = record { count = refl; shapes = tt; right = All-nil (IsRightPlace p limit) }
 fates_right p limit entries name named later_right (pair ∷ added) (fate ∷ fates) h =
@@ -70,7 +84,8 @@ fates_right p limit entries name named later_right (pair ∷ added) (fate ∷ fa
     record {
       count = ap suc others.count;
       shapes = (one.shape, others.shapes);
-      right = All-append (IsRightPlace p limit) (places (path_to entries name ++ pair ∷ []) (fate_tree named fate)) (child_places (path_to entries name) added (fate_trees named fates)) one.right others.right;
+      right = All-append (IsRightPlace p limit) (places (path_to entries name ++ pair ∷ []) (fate_tree named fate))
+          (child_places (path_to entries name) added (fate_trees named fates)) one.right others.right;
     }
 fates_right p limit entries name named later_right _ _ h = absurd h
 
@@ -79,27 +94,34 @@ some_member : (p : Problem) (k : ℕ) (members : List ℕ) → IsForbidden p k m
 some_member p k [] over = absurd (omega (arith, over))
 some_member p k (i ∷ members) over = omega arith
 
-ending_right : (p : Problem) (limit : Option ℤ) (entries : List Entry) (name : ℕ) (named : ℕ → Tree) → NamedAreRight p limit entries name named → (ending : Ending) → IsRightEnding p limit entries name ending → has_ended ending ≡ true
+ending_right : (p : Problem) (limit : Option ℤ) (entries : List Entry) (name : ℕ) (named : ℕ → Tree)
+    → NamedAreRight p limit entries name named → (ending : Ending) → IsRightEnding p limit entries name ending
+    → has_ended ending ≡ true
     → IsRightTree p limit (path_to entries name) (ending_tree named ending)
 ending_right p limit entries name named later_right not_ended h ended = absurd (cc)
 ending_right p limit entries name named later_right was_cut h ended = leaf_right p limit (path_to entries name) (ending_tree named was_cut) kind.Cut tt refl h
-ending_right p limit entries name named later_right was_solved h ended = leaf_right p limit (path_to entries name) (ending_tree named was_solved) kind.Solved tt refl h
+ending_right p limit entries name named later_right was_solved h ended =
+    leaf_right p limit (path_to entries name) (ending_tree named was_solved) kind.Solved tt refl h
 ending_right p limit entries name named later_right (was_split resource members fates) h ended =
     let pairs = path_to entries name in
     let children = fates_right p limit entries name named later_right (ordered_pairs members) fates h.2 in
     record {
       shape = (some_member p resource members h.1.forbidden, children.count ∙ count_pairs members, children.shapes);
-      right = All-cons (IsRightPlace p limit) (place pairs (kind.Split resource members)) (child_places pairs (ordered_pairs members) (fate_trees named fates)) (h.0, h.1) children.right;
+      right = All-cons (IsRightPlace p limit) (place pairs (kind.Split resource members))
+          (child_places pairs (ordered_pairs members) (fate_trees named fates)) (h.0, h.1) children.right;
     }
 
 -- the tree under a name is right, below the pairs that its forced ones come after
-within_right : (p : Problem) (limit : Option ℤ) (entries : List Entry) → IsWholeTree p limit entries → (depth name : ℕ) → length entries ≤ name + depth → name < length entries
-    → (pairs : List Pair) → path_to entries name ≡ pairs ++ (entry_at entries name).forced → AllForced p pairs (entry_at entries name).forced → IsRightTree p limit pairs (tree_within entries depth name)
+within_right : (p : Problem) (limit : Option ℤ) (entries : List Entry) → IsWholeTree p limit entries → (depth name : ℕ)
+    → length entries ≤ name + depth → name < length entries
+    → (pairs : List Pair) → path_to entries name ≡ pairs ++ (entry_at entries name).forced
+    → AllForced p pairs (entry_at entries name).forced → IsRightTree p limit pairs (tree_within entries depth name)
 within_right p limit entries is zero name deep known pairs path all = absurd (omega arith)
 within_right p limit entries is (suc depth) name deep known pairs path all =
     let below = ending_tree (tree_within entries depth) (entry_at entries name).ending in
     let own = ending_right p limit entries name (tree_within entries depth)
-    (λ pair later under. within_right p limit entries is depth later (omega (arith, under.is_later)) under.named (path_to entries name ++ pair ∷ []) under.path under.all_forced)
+    (λ pair later under. within_right p limit entries is depth later (omega (arith, under.is_later)) under.named
+    (path_to entries name ++ pair ∷ []) under.path under.all_forced)
     (entry_at entries name).ending (is.right.endings name known) (is.ended name known) in
     forced_right p limit pairs (entry_at entries name).forced below all (subst (λ (ps : List Pair). IsRightTree p limit ps below) path own)
 
@@ -108,7 +130,8 @@ first_path : (entries : List Entry) (path : List Pair) (paths : List (List Pair)
 first_path [] path paths = refl
 first_path (entry ∷ entries) path paths = first_path entries path (paths ++ path_after (path ∷ paths) entry.origin entry.forced ∷ [])
 
-root_path : (entries : List Entry) (origin : Option Origin) (forced : List Pair) → origin ≡ None → get_or (paths_after (path_after [] origin forced ∷ []) entries) 0 [] ≡ forced
+root_path : (entries : List Entry) (origin : Option Origin) (forced : List Pair) → origin ≡ None
+    → get_or (paths_after (path_after [] origin forced ∷ []) entries) 0 [] ≡ forced
 root_path entries None forced none = first_path entries forced []
 root_path entries (Some o) forced none = absurd (cc)
 
@@ -132,15 +155,20 @@ same_limit : (best : Option ScheduleOf) → limit_of (claim_of best) ≡ ceiling
 same_limit None = refl
 same_limit (Some schedule) = refl
 
-claim_spelled : (p : Problem) (best : Option ScheduleOf) → IsProject p → IfSome best (λ s. s.project ≡ p) → IfSome best IsKeptSchedule → IsWritableClaim (claim_of best)
+claim_spelled : (p : Problem) (best : Option ScheduleOf) → IsProject p → IfSome best (λ s. s.project ≡ p)
+    → IfSome best IsKeptSchedule → IsWritableClaim (claim_of best)
 claim_spelled p None is same kept = tt
-claim_spelled p (Some s) is same kept = spelled_claim p s.starts is (subst (λ (q : Problem). IsFeasible q s.starts) same kept.0) (subst (λ (q : Problem). AreStarts q s.starts) same kept.1)
+claim_spelled p (Some s) is same kept = spelled_claim p s.starts is
+    (subst (λ (q : Problem). IsFeasible q s.starts) same kept.0)
+    (subst (λ (q : Problem). AreStarts q s.starts) same kept.1)
 
 starts_right : (p : Problem) (best : Option ScheduleOf) → IfSome best (λ s. s.project ≡ p) → IfSome best IsKeptSchedule → AreRightStarts p (claim_of best)
 starts_right p None same kept = tt
 starts_right p (Some s) same kept = (subst (λ (q : Problem). IsFeasible q s.starts) same kept.0, refl)
 
-pub trail_record : (p : Problem) (best : Option ScheduleOf) (entries : List Entry) (r : SearchRecord) → IsOver p best entries → r.claim ≡ claim_of best → r.lines ≡ lines_of (tree_under entries 0) → IsRecord search_kind r
+pub trail_record : (p : Problem) (best : Option ScheduleOf) (entries : List Entry) (r : SearchRecord)
+    → IsOver p best entries → r.claim ≡ claim_of best → r.lines ≡ lines_of (tree_under entries 0)
+    → IsRecord search_kind r
 trail_record p best entries r over claim lines =
     let whole = trail_right p (ceiling_of best) entries over.whole in
     record {
@@ -149,7 +177,8 @@ trail_record p best entries r over claim lines =
       whole = (tree_under entries 0, record { shape = whole.shape; spelled = sym lines });
     }
 
-pub record_right : (p : Problem) (best : Option ScheduleOf) (entries : List Entry) (r : SearchRecord) → IsOver p best entries → r.claim ≡ claim_of best → r.lines ≡ lines_of (tree_under entries 0) → IsRight p r
+pub record_right : (p : Problem) (best : Option ScheduleOf) (entries : List Entry) (r : SearchRecord)
+    → IsOver p best entries → r.claim ≡ claim_of best → r.lines ≡ lines_of (tree_under entries 0) → IsRight p r
 record_right p best entries r over claim lines =
     let whole = trail_right p (ceiling_of best) entries over.whole in
     record {
@@ -157,6 +186,7 @@ record_right p best entries r over claim lines =
       lines = record {
         whole = tree_under entries 0;
         tree_of = record { shape = whole.shape; spelled = sym lines };
-        right = subst (λ (limit : Option ℤ). All (IsRightPlace p limit) (places [] (tree_under entries 0))) (sym (ap limit_of claim ∙ same_limit best)) whole.right;
+        right = subst (λ (limit : Option ℤ). All (IsRightPlace p limit) (places [] (tree_under entries 0)))
+            (sym (ap limit_of claim ∙ same_limit best)) whole.right;
       };
     }

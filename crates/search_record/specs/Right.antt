@@ -4,7 +4,7 @@ use Rattle.std.specs.List.{All}
 use Rattle.network.specs.declared.parts.Pair.{Pair}
 use Rattle.network.specs.Problem.{Problem, activity_count, NameActivities, AreStarts}
 use Rattle.network.specs.Walk.{IsProjectMatrix, Rows}
-use Rattle.network.specs.Schedule.{IsFeasible, makespan, ScheduleOf}
+use Rattle.network.specs.Schedule.{IsFeasible, makespan, ScheduleOf, IsTrueVerdict}
 use Rattle.branching.specs.Subproblem.{IsLive}
 use Rattle.branching.specs.Right.{IsForced, IsRightSet, IsInfeasible, IsCutUnder, IsSolvedUnder}
 use Rattle.record_text.specs.declared.line.Claim.{Claim}
@@ -16,7 +16,7 @@ use Rattle.search_record.specs.Due.{Place, places}
 use Rattle.record_text.specs.declared.fault.RecordFault.{RecordFault}
 use Rattle.record_text.specs.declared.fault.RecordFaultKind.{RecordFaultKind}
 use Rattle.record_text.specs.declared.fault.RecordFaultKind.TheVariants as why
-use Rattle.record_text.specs.FirstWrong.{HasMakespan, IsFactOf, IsFirstWrongOf, Judge, IsRightBy, IsFirstFaultBy}
+use Rattle.record_text.specs.FirstWrong.{HasMakespan, IsFirstWrongOf, Judge, IsRightBy, IsFirstFaultBy}
 use Rattle.record_text.specs.Kinds.{first_line}
 use Rattle.record_text.specs.Text.{search_kind, says}
 
@@ -110,4 +110,4 @@ IsFirstFault p r fault = IsFirstFaultBy search_judge p r fault
 
 -- what a right record claims is true
 abbrev pub RightIsTrue : Type 0
-RightIsTrue = (p : Problem) (r : SearchRecord) → IsRight p r → IsFactOf p (says r.claim)
+RightIsTrue = (p : Problem) (r : SearchRecord) → IsRight p r → IsTrueVerdict p (says r.claim)

@@ -14,5 +14,5 @@ mod verification;
 mod walk;
 
 pub use from_trail::of_trail;
-pub use record_text::{Proved, Record, RecordFault, RecordFaultKind};
+pub use record_text::{Record, RecordFault, RecordFaultKind};
 pub use verification::{right_law, verify};

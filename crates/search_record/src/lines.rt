@@ -42,7 +42,7 @@ fn check_dead(first: usize, lines: &[Line]) -> Result<(), RecordFault>
     }
     Err(RecordFault {
         line: first,
-        why: why_wrong(line),
+        kind: why_wrong(line),
     })
 }
 
@@ -58,7 +58,7 @@ pub(crate) fn check_lines(
     requires tree { (t : Tree) × IsTreeOf lines.now t }
     requires few { first ≤ 4 }
     ensures right { OnOk result (AreRightLines project.now limit lines.now) }
-    ensures fault { IfErr result (λ fault. fault.why ≢ Memory → IsFirstWrong project.now limit first lines.now fault) }
+    ensures fault { IfErr result (λ fault. fault.kind ≢ Memory → IsFirstWrong project.now limit first lines.now fault) }
 {
     let Some(mut due) = Due::root(alloc, project)? else {
         return check_dead(first, lines);
@@ -68,7 +68,7 @@ pub(crate) fn check_lines(
         if !right {
             return Err(RecordFault {
                 line: first + index,
-                why: why_wrong(line),
+                kind: why_wrong(line),
             });
         }
         due.go_on(alloc, line)?;

@@ -6,8 +6,8 @@ ghost use Rattle.record_text.specs.Text.{search_kind};
 ghost use Rattle.search_record.specs.Right.{RightIsTrue, limit_of, search_judge};
 
 use crate::lines::check_lines;
-use network::Project;
-use record_text::{Claim, Line, Proved, Record, RecordFault, RecordLine};
+use network::{Project, Verdict};
+use record_text::{Claim, Line, Record, RecordFault, RecordLine};
 use schedule_check::check_claimed;
 use std::alloc::Global;
 
@@ -35,7 +35,7 @@ fn limit_of(claim: &Claim) -> Option<i64>
 /// It checks each line with the matrix of the project and its node's pairs. There is one matrix (by Floyd 1962 and
 /// Warshall 1962). It takes an arc for each pair, and goes back where the tree does. A node that is still to come takes
 /// two numbers of memory and a pair.
-pub fn verify(alloc: Global, project: &Project, shown: &Record) -> Result<Proved, RecordFault>
+pub fn verify(alloc: Global, project: &Project, shown: &Record) -> Result<Verdict, RecordFault>
     ensures { IsVerdict search_kind search_judge project.now shown.now result }
 {
     let claim = shown.claim();

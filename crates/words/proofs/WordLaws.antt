@@ -1,5 +1,8 @@
 -- The words of a text, from its front.
-use Rattle.std.proofs.Common.{◌≡◌, ℕ, zero, suc, ◌+◌, ◌<◌, ◌≤◌, Bool, true, false, cond, not, List, [], ◌∷◌, length, take, drop, get_or, Option, Some, None, refl, sym, ap, ◌∙◌, add-one, add-zero, drop-drop, arith, nat_abs, ◌^◌, Result, Ok, rules, lit<, unwrap_or, ℤ, pos, IfSome, ltb-false, length-take, length-drop, get_or-drop, take_all}
+use Rattle.std.proofs.Common.{◌≡◌, ℕ, zero, suc, ◌+◌, ◌<◌, ◌≤◌, Bool, true, false, cond, not, List, [], ◌∷◌, length}
+use Rattle.std.proofs.Common.{take, drop, get_or, Option, Some, None, refl, sym, ap, ◌∙◌, add-one, add-zero, drop-drop}
+use Rattle.std.proofs.Common.{arith, nat_abs, ◌^◌, Result, Ok, rules, lit<, unwrap_or, ℤ, pos, IfSome, ltb-false}
+use Rattle.std.proofs.Common.{length-take, length-drop, get_or-drop, take_all}
 use Rattle.std.specs.List.{filter, slice_split, position, position_or_len, list_all}
 use Rattle.std.proofs.Math.Seq.{drop-cons, drop-length}
 use Rattle.std.proofs.lemmas.List.Quantifiers.{position-Some}
@@ -37,7 +40,8 @@ nowhere p text none = ltb-false _ _ (no_option _ _ none)
 -- ---- pieces
 
 -- a byte that is there ends a piece
-pub pieces-Some : (p : ℕ → Bool) (text : List ℕ) (end : ℕ) → position p text ≡ Some end → slice_split p text ≡ take end text ∷ slice_split p (drop (end + 1) text)
+pub pieces-Some : (p : ℕ → Bool) (text : List ℕ) (end : ℕ) → position p text ≡ Some end
+    → slice_split p text ≡ take end text ∷ slice_split p (drop (end + 1) text)
 pieces-Some p text end found =
     let at : position_or_len p text ≡ end = option_is _ _ _ found in
     let below : position_or_len p text < length text = omega (arith, (position-Some p text end 0 found).0) in
@@ -94,12 +98,20 @@ ends_at p text (Some zero) found some first = absurd (cc (position-Some p text z
 ends_at p text (Some (suc end)) found some first =
     let is = position-Some p text (suc end) 0 found in
     let split = rw add-one at (pieces-Some p text (suc end) found) in
-    let rest : parts_by p (drop (suc end) text) ≡ parts_by p (drop (suc (suc end)) text) = ap (parts_by p) (drop-cons text (suc end) 0 is.0) ∙ passed p (get_or text (suc end) 0) (drop (suc (suc end)) text) is.1 in
-    (ap (filter is_word) split ∙ kept (take (suc end) text) (slice_split p (drop (suc (suc end)) text)) (omega (arith, length-take (suc end) text, is.0)) ∙ ap (λ (others : List (List ℕ)). take (suc end) text ∷ others) (sym rest), omega arith)
+    let rest : parts_by p (drop (suc end) text) ≡ parts_by p (drop (suc (suc end)) text) =
+    ap (parts_by p) (drop-cons text (suc end) 0 is.0)
+    ∙ passed p (get_or text (suc end) 0) (drop (suc (suc end)) text) is.1 in (
+      ap (filter is_word) split ∙ kept (take (suc end) text) (slice_split p (drop (suc (suc end)) text))
+          (omega (arith, length-take (suc end) text, is.0))
+          ∙ ap (λ (others : List (List ℕ)). take (suc end) text ∷ others) (sym rest),
+      omega arith,
+    )
 
 -- what stands before the first word is passed over, and then the word comes
 pub words-Some : (p : ℕ → Bool) (text : List ℕ) (start : ℕ) (o : Option ℕ) → position (λ b. not (p b)) text ≡ Some start → position p (drop start text) ≡ o
-    → (parts_by p text ≡ take (unwrap_or o (length (drop start text))) (drop start text) ∷ parts_by p (drop (unwrap_or o (length (drop start text))) (drop start text))) × (0 < unwrap_or o (length (drop start text)))
+    → (parts_by p text ≡ take (unwrap_or o (length (drop start text))) (drop start text) ∷ parts_by p
+    (drop (unwrap_or o (length (drop start text))) (drop start text)))
+    × (0 < unwrap_or o (length (drop start text)))
 words-Some p text start o found end =
     let is = position-Some (λ b. not (p b)) text start 0 found in
     let first : get_or (drop start text) 0 0 ≡ get_or text start 0 = rw (get_or-drop, add-zero) refl in
@@ -123,7 +135,9 @@ below_128 c h = grind (arith, nat_tests)
 
 -- digits are text
 pub IsUtf8-digits : (digits : List ℕ) → AreDigits digits → IsUtf8 digits
-IsUtf8-digits digits are = IsUtf8-from_ascii digits (IsAscii-from_all digits (λ k d lt. below_128 (get_or digits k d) (AllPass-from_list_all is_ascii_digit digits are k d lt)))
+IsUtf8-digits digits are = IsUtf8-from_ascii digits
+    (IsAscii-from_all digits (λ k d lt. below_128 (get_or digits k d)
+    (AllPass-from_list_all is_ascii_digit digits are k d lt)))
 
 -- so many digits spell a number below that power of ten
 pub digits_value-below : (digits : List ℕ) (most : ℕ) → AreDigits digits → length digits ≤ most → digits_value 10 digits < 10 ^ most
@@ -134,7 +148,8 @@ pub natural-Some : (most : ℕ) (word : List ℕ) → AreDigits word → 0 < len
 natural-Some most word are some few = grind (arith, nat_tests)
 
 -- what `parse` makes of so many digits
-pub parsed : {E : Type 0} (most : ℕ) (word text : List ℕ) (r : Result ℕ E) → most ≤ MAX_DIGITS → text ≡ word → AreDigits word → 0 < length word → length word ≤ most
+pub parsed : {E : Type 0} (most : ℕ) (word text : List ℕ) (r : Result ℕ E) → most ≤ MAX_DIGITS → text ≡ word
+    → AreDigits word → 0 < length word → length word ≤ most
     → ParsesUnsigned 64 10 text r → (result_ok r ≡ natural most word) × IfSome (result_ok r) (λ n. n < 10 ^ MAX_DIGITS)
 parsed most word text r few_digits same are some few parses =
     let wide : 10 ^ most ≤ 10 ^ MAX_DIGITS = pow-le-pow_right (lit< tt) few_digits in

@@ -1,5 +1,6 @@
 -- Each step on the ceiling keeps the ceiling rule.
-use Rattle.std.proofs.Common.{◌≡◌, ◌≢◌, ℕ, zero, suc, ◌<◌, List, [], ◌∷◌, ◌++◌, length, All, Any, set, get_or, sym, subst, arith, ◌⊎◌, ◌≤◌, min, slice_index, slice_set, refl, inl, inr, le_refl}
+use Rattle.std.proofs.Common.{◌≡◌, ◌≢◌, ℕ, zero, suc, ◌<◌, List, [], ◌∷◌, ◌++◌, length, All, Any, set, get_or, sym}
+use Rattle.std.proofs.Common.{subst, arith, ◌⊎◌, ◌≤◌, min, slice_index, slice_set, refl, inl, inr, le_refl}
 use Rattle.std.proofs.lemmas.Grind.{common_steps}
 use Rattle.std.proofs.lemmas.List.Elements.{All-get_or, All-set, All-weaker, All-push}
 use mathlib.Core.Option.{some, some-injective, some-ne-none}
@@ -58,9 +59,12 @@ module _ {S : Type 0} (s : State S View) (seat : ℕ) (old : View) (rule : Holds
       → HoldsLeast record { words = slice_set s.words 0 n; homes = s.homes; views = slice_set s.views seat new }
   falls n new down below_known below_offered some_offered =
       let holds = slice_set-first s.words n down in
-      let lower : All (λ view. n ≤ view.known) s.views = All-weaker (λ view. number_of s ≤ view.known) (λ view. n ≤ view.known) (λ view above. omega arith) s.views rule.at_most_known in
+      let lower : All (λ view. n ≤ view.known) s.views =
+      All-weaker (λ view. number_of s ≤ view.known) (λ view. n ≤ view.known) (λ view above. omega arith) s.views
+      rule.at_most_known in
       record {
-        at_most_known = subst (λ number. All (λ view. number ≤ view.known) (slice_set s.views seat new)) (sym holds) (All-set (λ view. n ≤ view.known) s.views seat new below_known lower);
+        at_most_known = subst (λ number. All (λ view. number ≤ view.known) (slice_set s.views seat new)) (sym holds)
+            (All-set (λ view. n ≤ view.known) s.views seat new below_known lower);
         known_at_most_offered = All-set (λ view. view.known ≤ view.offered) s.views seat new below_offered rule.known_at_most_offered;
         was_offered = subst (λ number. Any (λ view. view.offered ≡ number) (slice_set s.views seat new)) (sym holds) some_offered;
       }
@@ -89,14 +93,21 @@ sees slots seat me s rule full read fits =
     let some_offered = Any-set_kept (λ view. view.offered ≡ found) s.views seat old new read (λ was. was) rule.was_offered in
     (new, keeps, tt, falls s seat old rule read found new (le_refl found) (le_refl found) (omega arith) some_offered, (knew, refl))
 
-pub lowers : {S : Type 0} (slots seat number : ℕ) (me : Me S View) → Allows HoldsLeast slots seat me 0 (λ n. min n number) (λ found after. Lowers me.0 found number after.0)
+pub lowers : {S : Type 0} (slots seat number : ℕ) (me : Me S View)
+    → Allows HoldsLeast slots seat me 0 (λ n. min n number) (λ found after. Lowers me.0 found number after.0)
 lowers slots seat number me s rule full read fits =
     let old = me.0 in
     let found = number_of s in
     let new : View = record { known = min (min old.known found) number; offered = min old.offered number } in
     let knew = known s seat old rule read in
-    let had = offered s seat old rule read in
-    (new, keeps, tt, falls s seat old rule read (min found number) new (omega arith) (omega arith) (omega arith) (offers s seat old rule read number new refl), (knew, refl))
+    let had = offered s seat old rule read in (
+      new,
+      keeps,
+      tt,
+      falls s seat old rule read (min found number) new (omega arith) (omega arith) (omega arith)
+          (offers s seat old rule read number new refl),
+      (knew, refl),
+    )
 
 pub splits : {S : Type 0} (seat : ℕ) (view : View) → Splits {S = S} HoldsLeast seat view view view
 splits seat view s rule read =

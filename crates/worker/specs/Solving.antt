@@ -1,11 +1,12 @@
 -- What a search by workers says in the end.
-use Rattle.std.specs.Prelude.{◌≡◌, ◌+◌, ◌<◌, ◌≤ℤ◌, ◌↔◌, ℕ, ℤ, Bool, true, false, List, [], ◌∷◌, Option, None, Some, IfSome, IsSomeAnd, length, sum, vec_len, ◌≢◌, ◌⊎◌, Result, Ok, Err}
+use Rattle.std.specs.Prelude.{◌≡◌, ◌+◌, ◌<◌, ◌≤ℤ◌, ◌↔◌, ℕ, ℤ, Bool, true, false, List, [], ◌∷◌, Option, None, Some}
+use Rattle.std.specs.Prelude.{IfSome, IsSomeAnd, length, sum, vec_len, ◌≢◌, ◌⊎◌, Result, Ok, Err}
 use Rattle.std.specs.Option.{option_or}
 use Rattle.std.specs.Result.{result_err}
 use Rattle.network.specs.Problem.{Problem}
 use Rattle.network.specs.Schedule.{ScheduleOf, makespan}
 use Rattle.branching.specs.Fair.{ceiling_of}
-use Rattle.plain_search.specs.Verdicts.{IsNoLongerThan, IsTrueOf}
+use Rattle.plain_search.specs.Verdicts.{IsNoLongerThan, IsTrueOf, best_of}
 use Rattle.plain_search.specs.declared.search.Outcome.{Outcome}
 use Rattle.plain_search.specs.declared.search.Outcome.TheVariants.{Optimal, NoSchedule, Stopped}
 use Rattle.branching.specs.Right.{IsLeast}
@@ -61,12 +62,6 @@ pub record IsSolution (p : Problem) (workers takes : ℕ) (start : Option Schedu
   pub taken : IsStopped solved.outcome → solved.counts.taken ≡ takes
   pub each : vec_len solved.per_worker ≡ workers
   pub shares : sum solved.per_worker.items ≡ solved.counts.checked
-
--- the shortest schedule that was found
-abbrev pub best_of : Outcome → Option ScheduleOf
-best_of (Optimal best) = Some best
-best_of NoSchedule = None
-best_of (Stopped best bound) = best
 
 -- The trail is of the project. Where the search was not stopped, it is a whole tree under the makespan of the outcome.
 pub record IsTrailOf (p : Problem) (outcome : Outcome) (trail : TrailOf) : Type 0 where

@@ -15,8 +15,8 @@ use crate::key::Key;
 use crate::shared::Shared;
 use crate::state::{Tally, WorkerState};
 use crate::threads::run_workers;
-use book::{Book, Counts, NodesLeft, Verdict, are_allowed};
-use network::{Project, Schedule};
+use book::{Book, Counts, NodesLeft, are_allowed};
+use network::{Project, Schedule, Verdict};
 use plain_search::Outcome;
 use search_log::SearchLog;
 use std::alloc::{AllocError, Global};
@@ -118,7 +118,7 @@ fn outcome_of<R: Threads>(rt: &R, book: Book) -> (Outcome, Option<SearchLog>)
     let verdict = book.verdict();
     let (best, trail, nodes) = book.into_parts();
     drop_beside(rt, nodes);
-    if let Verdict::Open { best: _, bound } = verdict {
+    if let Verdict::Bound { bound } = verdict {
         return (Outcome::Stopped { best, bound }, trail);
     }
     match best {

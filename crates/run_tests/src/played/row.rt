@@ -3,9 +3,9 @@
 use crate::gates::{HoldingGate, Holds};
 use crate::played::devices::{Limits, giving, taking};
 use crate::played::text_of;
-use calls::{ArgumentsFault, call_of};
+use calls::{ArgumentsFault, PsmaxCall, call_of};
 use psmax_run::run_parallel;
-use runs::{Ended, InputReader, OutputWriter, run};
+use runs::{Ended, InputReader, OutputWriter, RecordKind, Scope, run, run_verify};
 use std::alloc::{AllocError, Global};
 use std::process::Abort;
 use std::sync::Wait;
@@ -25,7 +25,8 @@ fn words_of(alloc: Global, line: &str) -> Result<Vec<String>, AllocError> {
 /// The call that the words of a line make.
 pub(super) fn call_text(alloc: Global, line: &str) -> Result<String, AllocError> {
     match call_of(alloc, &words_of(alloc, line)?) {
-        Ok(call) => {
+        Ok(PsmaxCall::Verify(call)) => format!(in alloc; "{call:?}"),
+        Ok(PsmaxCall::Run(call)) => {
             let (second, record) = (
                 call.names.second.is_some(),
                 call.names.record_file.is_some(),
@@ -128,18 +129,28 @@ impl<'a> Row<'a> {
         let mut second = InputReader::new(giving(second, limits.second));
         let mut out = OutputWriter::new(taking(alloc, limits.out, limits));
         let mut record = OutputWriter::new(taking(alloc, limits.record, limits));
-        let ended = match call.job.by_workers() {
-            Some(options) => run_parallel(
-                rt,
+        let ended = match call {
+            PsmaxCall::Run(call) => match call.job.by_workers() {
+                Some(options) => run_parallel(
+                    rt,
+                    alloc,
+                    options,
+                    &mut input,
+                    &mut second,
+                    &mut out,
+                    &mut record,
+                    gate,
+                ),
+                None => run(alloc, call.job, &mut input, &mut second, &mut out),
+            },
+            PsmaxCall::Verify(_) => run_verify(
                 alloc,
-                options,
+                &Scope::Whole,
+                RecordKind::Tree,
                 &mut input,
                 &mut second,
                 &mut out,
-                &mut record,
-                gate,
             ),
-            None => run(alloc, call.job, &mut input, &mut second, &mut out),
         };
         let (out, record) = (out.into_inner(), record.into_inner());
         let told = ended_text(alloc, ended, &out.taken, &record.taken)?;

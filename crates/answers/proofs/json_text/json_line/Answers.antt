@@ -11,5 +11,6 @@ pub returns : goal.returns
 returns c =
     let starts = option_map (λ n. n.now) c.args.starts in
     MatchResult-weaker c.line_of.result c.line_of.ensures
-    (λ text said. said ∙ ap (λ v. compact_text v ++ codes "\n") c.in_ok-value.ensures ∙ answer_printed c.args.bound c.args.makespan starts c.args.status.now c.requires)
+    (λ text said. said ∙ ap (λ v. compact_text v ++ codes "\n") c.in_ok-value.ensures
+    ∙ answer_printed c.args.bound c.args.makespan starts c.args.status.now c.requires)
     (λ _ _. tt)

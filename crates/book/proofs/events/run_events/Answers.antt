@@ -11,7 +11,9 @@ loop-event-preserved c =
     record {
       run =
           subst (λ (rs : List Response). Run c.args.book.now (c.loop-event.yielded ++ c.in-Some.event ∷ []) rs c.apply-reply.new.book) (sym items)
-          (run_more c.args.book.now c.loop-event.book c.apply-reply.new.book c.loop-event.yielded c.loop-event.replies.items c.in-Some.event c.apply-reply.result c.loop-event.invariant.run c.apply-reply.ensures.step);
+          (run_more c.args.book.now c.loop-event.book c.apply-reply.new.book c.loop-event.yielded
+          c.loop-event.replies.items c.in-Some.event c.apply-reply.result c.loop-event.invariant.run
+          c.apply-reply.ensures.step);
       told = omega (arith, count, c.loop-event.invariant.told, length-append c.loop-event.yielded (c.in-Some.event ∷ []));
       room = omega (arith, capacity, c.loop-event.invariant.room);
       sound = c.apply-reply.ensures.sound;

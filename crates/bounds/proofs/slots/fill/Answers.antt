@@ -9,12 +9,15 @@ loop-widths-preserved c =
     let place : ℕ = c.loop-widths.place in
     let left : ℕ = c.loop-widths.left - get_or mid place 0 in
     let more : IsFilling c.args.start c.args.work (place + 1) left old (set mid place 0) =
-    filling_more c.args.start c.args.work place c.loop-widths.left old mid c.loop-widths.invariant.filling c.loop-widths.invariant.inside c.loop-widths-test.true in
+    filling_more c.args.start c.args.work place c.loop-widths.left old mid c.loop-widths.invariant.filling
+    c.loop-widths.invariant.inside c.loop-widths-test.true in
     record {
       filling = more;
-      inside = filling_inside c.args.start c.args.work (place + 1) left old (set mid place 0) more c.requires.enough (omega (arith, c.loop-widths.invariant.inside));
+      inside = filling_inside c.args.start c.args.work (place + 1) left old (set mid place 0) more c.requires.enough
+          (omega (arith, c.loop-widths.invariant.inside));
     }
 
 pub returns : goal.returns
 returns c =
-    filling_end c.args.start c.args.work c.loop-widths.place c.loop-widths.left c.args.widths.now c.loop-widths.widths c.loop-widths.invariant.filling c.loop-widths.invariant.inside c.loop-widths-test.false
+    filling_end c.args.start c.args.work c.loop-widths.place c.loop-widths.left c.args.widths.now c.loop-widths.widths
+    c.loop-widths.invariant.filling c.loop-widths.invariant.inside c.loop-widths-test.false

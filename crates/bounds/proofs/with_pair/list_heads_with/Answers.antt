@@ -10,7 +10,15 @@ pub loop-i-preserved : goal.loop-i-preserved
 loop-i-preserved c =
     let fits : FitsSigned w64 c.unwrap_or.result = search rules in
     let arc : to_z w64 (of_z w64 c.args.arc.weight) ≡ c.args.arc.weight = search rules in
-    let is : c.or_way.result ≡ entry_over c.args.arc c.args.matrix.now 0 c.loop-i.i = simp (c.or_way.ensures.value, c.then_arc-first.ensures.sum, c.get.ensures.value, c.get-in-loop-i.ensures.value, c.get-in-loop-i-2.ensures.value, arc) refl in
+    let is : c.or_way.result ≡ entry_over c.args.arc c.args.matrix.now 0 c.loop-i.i =
+    simp (
+      c.or_way.ensures.value,
+      c.then_arc-first.ensures.sum,
+      c.get.ensures.value,
+      c.get-in-loop-i.ensures.value,
+      c.get-in-loop-i-2.ensures.value,
+      arc,
+    ) refl in
     set_more (pos 0) (λ k. unwrap_or (entry_over c.args.arc c.args.matrix.now 0 k) (pos 0)) c.loop-i.heads c.loop-i.i _ (omega arith) c.loop-i.invariant
     (to_z-of_z w64 c.unwrap_or.result fits ∙ c.unwrap_or.ensures ∙ ap (λ (o : Option ℤ). unwrap_or o (pos 0)) is)
 

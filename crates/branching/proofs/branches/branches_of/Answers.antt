@@ -33,10 +33,21 @@ loop-pair-preserved c =
             let made = rw w.in-Child.is at c.in_ok-child.ensures.branch in
             let fits : SFits w64 w.in-Child.child.bound = search rules in
             let is = simp to_z-of_z at w.in_ok-with_pairs-in-Child.ensures in
-            rw (more, pushed, w.fate-is, w.children-is, w.in_ok-push-in-Child.ensures.items, map-append fate_value c.loop-pair.fates.items, map-append arc_value c.loop-pair.children.items, is) (fate_child _ _ _ _ _ _ _ c.loop-pair.invariant.fates made.0 made.1)
+            rw (
+              more,
+              pushed,
+              w.fate-is,
+              w.children-is,
+              w.in_ok-push-in-Child.ensures.items,
+              map-append fate_value c.loop-pair.fates.items,
+              map-append arc_value c.loop-pair.children.items,
+              is,
+            )
+            (fate_child _ _ _ _ _ _ _ c.loop-pair.invariant.fates made.0 made.1)
         | in-Infeasible w ↦
             let made = rw w.in-Infeasible.is at c.in_ok-child.ensures.branch in
-            rw (more, pushed, w.fate-is, w.children-is, map-append fate_value c.loop-pair.fates.items) (fate_infeasible _ _ _ _ _ _ _ c.loop-pair.invariant.fates made)
+            rw (more, pushed, w.fate-is, w.children-is, map-append fate_value c.loop-pair.fates.items)
+            (fate_infeasible _ _ _ _ _ _ _ c.loop-pair.invariant.fates made)
         | in-Cut w ↦
             let made = rw w.in-Cut.is at c.in_ok-child.ensures.branch in
             rw (more, pushed, w.fate-is, w.children-is, map-append fate_value c.loop-pair.fates.items) (fate_cut _ _ _ _ _ _ _ c.loop-pair.invariant.fates made)

@@ -23,19 +23,26 @@ new-requires c =
     let fits : SFits w64 c.bound.result = search rules in
     let reaches : Reaches c.args.ceiling c.bound.result = simp to_z-of_z at c.if-not-is_below.ensures.reached in
     rw (c.new-fates.ensures.items, c.new-children.ensures.items, c.in_ok-node.ensures)
-    (report_cut node c.args.ceiling is (rw bound_is at reaches) (λ s stands. reached_over c.args.ceiling c.bound.result s reaches (rw bound_is (is.true_bound s stands))))
+    (report_cut node c.args.ceiling is (rw bound_is at reaches)
+    (λ s stands. reached_over c.args.ceiling c.bound.result s reaches (rw bound_is (is.true_bound s stands))))
 
 pub first-requires-clause-starts : goal.first-requires-clause-starts
 first-requires-clause-starts c =
-    let same : c.deref-3.result.now ≡ (arc_value c.args.node.now).project = c.deref-3.ensures ∙ c.project.ensures.project ∙ ap (λ (n : Subproblem). n.project) c.deref-2.ensures in
-    let earliest = c.in_ok-starts.ensures.earliest (arc_value c.args.node.now).project (arc_value c.args.node.now).pairs (rw c.matrix.ensures c.requires.tied.matrix) in
+    let same : c.deref-3.result.now ≡ (arc_value c.args.node.now).project = c.deref-3.ensures
+    ∙ c.project.ensures.project ∙ ap (λ (n : Subproblem). n.project) c.deref-2.ensures in
+    let earliest = c.in_ok-starts.ensures.earliest (arc_value c.args.node.now).project (arc_value c.args.node.now).pairs
+    (rw c.matrix.ensures c.requires.tied.matrix) in
     rw (same, c.as_slice.ensures.value) earliest.limits
 
 pub report_split-report-requires-clause-earliest : goal.report_split-report-requires-clause-earliest
-report_split-report-requires-clause-earliest c = rw c.as_slice-least.ensures.value (c.in_ok-starts.ensures.earliest (arc_value c.args.node.now).project (arc_value c.args.node.now).pairs (rw c.matrix.ensures c.requires.tied.matrix))
+report_split-report-requires-clause-earliest c =
+    rw c.as_slice-least.ensures.value (c.in_ok-starts.ensures.earliest (arc_value c.args.node.now).project
+    (arc_value c.args.node.now).pairs (rw c.matrix.ensures c.requires.tied.matrix))
 
 pub report_found-requires-clause-earliest : goal.report_found-requires-clause-earliest
-report_found-requires-clause-earliest c = c.in_ok-starts.ensures.earliest (arc_value c.args.node.now).project (arc_value c.args.node.now).pairs (rw c.matrix.ensures c.requires.tied.matrix)
+report_found-requires-clause-earliest c =
+    c.in_ok-starts.ensures.earliest (arc_value c.args.node.now).project (arc_value c.args.node.now).pairs
+    (rw c.matrix.ensures c.requires.tied.matrix)
 
 -- the node's bound is below the ceiling
 below : (c : Else-not-is_below) → IsUnder c.args.ceiling (arc_value c.args.node.now).bound

@@ -18,4 +18,5 @@ returns c =
     let within : IsWithin MAX_WAY_WITH c.in-Some.weight = rw c.in-Some.is at c.requires.small in
     let fits : SFits w64 (c.in-Some.weight +ℤ c.duration.result) = way_amount_fits c.in-Some.weight c.duration.result within c.duration.ensures.amount in
     let above : le_z (c.in-Some.weight +ℤ c.duration.result) (pos 0) ≡ false = simp to_z-of_z at c.if-late-le0.false in
-    simp to_z-of_z (forced_by c.args.project.now c.args.pair c.args.greatest c.in-Some.weight c.duration.result c.duration-2.result c.in-Some.is c.duration.ensures.value c.duration-2.ensures.value above)
+    simp to_z-of_z (forced_by c.args.project.now c.args.pair c.args.greatest c.in-Some.weight c.duration.result
+    c.duration-2.result c.in-Some.is c.duration.ensures.value c.duration-2.ensures.value above)

@@ -8,5 +8,10 @@ pub loop-place-preserved : goal.loop-place-preserved
 loop-place-preserved c =
     let none : Pair = record { before = 0; after = 0 } in
     let here : slice_get c.args.right.now c.loop-place.place ≡ Some (get_or c.args.left.now c.loop-place.place none) = c.if-not-has_at.ensures in
-    let inside : c.loop-place.place < length c.args.right.now = slice_get_within c.args.right.now c.loop-place.place (get_or c.args.left.now c.loop-place.place none) here in
-    record { within = omega arith; same = shared_more c.args.left.now c.args.right.now c.loop-place.place none c.loop-place-test.true c.loop-place.invariant.same here }
+    let inside : c.loop-place.place < length c.args.right.now =
+    slice_get_within c.args.right.now c.loop-place.place (get_or c.args.left.now c.loop-place.place none) here in
+    record {
+      within = omega arith;
+      same = shared_more c.args.left.now c.args.right.now c.loop-place.place none
+          c.loop-place-test.true c.loop-place.invariant.same here;
+    }

@@ -19,14 +19,18 @@ pub loop-other-preserved : goal.loop-other-preserved
 loop-other-preserved c =
     elim c.if-are_incompatible.branch [
       | then-are_incompatible+in_ok-push w ↦ rw (w.others-is, w.in_ok-push.ensures.items) (record {
-        rivals = rw (map-append (pair_of c.args.activity) c.loop-other.others.items) (All-push (AreIncompatible c.args.project.now) _ _ c.loop-other.invariant.rivals (c.are_incompatible.ensures.0 w.if-are_incompatible.true));
+        rivals = rw (map-append (pair_of c.args.activity) c.loop-other.others.items)
+            (All-push (AreIncompatible c.args.project.now) _ _ c.loop-other.invariant.rivals
+            (c.are_incompatible.ensures.0 w.if-are_incompatible.true));
         whole = λ j inside both. with_last c.loop-other.others.items c.loop-other.other j inside (λ less. c.loop-other.invariant.whole j less both);
       })
       | else-are_incompatible w ↦ rw w.others-is (record {
         rivals = c.loop-other.invariant.rivals;
         whole = λ j inside both. elim (cases_lt j c.loop-other.other) [
           | inl less ↦ c.loop-other.invariant.whole j less both
-          | inr more ↦ let same : j ≡ c.loop-other.other = omega arith in let yes = c.are_incompatible.ensures.1 (subst (λ j. AreIncompatible c.args.project.now (pair_of c.args.activity j)) same both) in let no = w.if-are_incompatible.false in cc
+          | inr more ↦ let same : j ≡ c.loop-other.other = omega arith in let yes =
+              c.are_incompatible.ensures.1 (subst (λ j. AreIncompatible c.args.project.now (pair_of c.args.activity j))
+              same both) in let no = w.if-are_incompatible.false in cc
         ];
       })
     ]

@@ -14,11 +14,16 @@ spared-count-requires-clause-few c =
     let many = c.capacity-capacity.ensures.limits.activity_limit in
     rw c.as_slice-loads.ensures (omega (arith, few, many, loads_few _ _ _ c.in_ok-loads.ensures.loads))
 
-are_shrunk : (c : In_ok-members) → AreShrunk (demand c.args.project.now c.args.resource) (capacity c.args.project.now c.args.resource) c.args.activities.now c.in_ok-members.members.items
+are_shrunk : (c : In_ok-members) → AreShrunk (demand c.args.project.now c.args.resource)
+    (capacity c.args.project.now c.args.resource) c.args.activities.now c.in_ok-members.members.items
 are_shrunk c =
     let loads : c.as_slice-loads.result.now ≡ c.in_ok-loads.loads.items = c.as_slice-loads.ensures in
-    let rest : take (length c.in_ok-loads.loads.items - c.spared-count.result) (drop c.spared-count.result c.in_ok-loads.loads.items) ≡ drop c.spared-count.result c.in_ok-loads.loads.items = take_all (length c.in_ok-loads.loads.items - c.spared-count.result) (drop c.spared-count.result c.in_ok-loads.loads.items) (omega (arith, length-drop {A = Demand})) in
-    shrunk (demand c.args.project.now c.args.resource) (capacity c.args.project.now c.args.resource) c.args.activities.now c.in_ok-loads.loads.items c.spared-count.result c.in_ok-members.members.items
+    let rest : take (length c.in_ok-loads.loads.items - c.spared-count.result)
+    (drop c.spared-count.result c.in_ok-loads.loads.items) ≡ drop c.spared-count.result c.in_ok-loads.loads.items =
+    take_all (length c.in_ok-loads.loads.items - c.spared-count.result)
+    (drop c.spared-count.result c.in_ok-loads.loads.items) (omega (arith, length-drop {A = Demand})) in
+    shrunk (demand c.args.project.now c.args.resource) (capacity c.args.project.now c.args.resource)
+    c.args.activities.now c.in_ok-loads.loads.items c.spared-count.result c.in_ok-members.members.items
     c.requires.rising
     c.in_ok-loads.ensures.loads
     (rw (loads, c.capacity-capacity.ensures.value) at c.spared-count.ensures.forbidden)

@@ -17,4 +17,5 @@ returns-clause-bench c =
     let fits : SFits w64 (c.horizon_of-bound.result +ℤ pos 1) = omega (arith, ints, value, c.horizon_of-bound.ensures.small) in
     let found = simp to_z-of_z at c.in_ok-bench.ensures in
     let asks : asks_too_much p ≡ false = sym c.asks_too_much.ensures ∙ c.if-asks_too_much.false in
-    first_root_is p (c.horizon_of-bound.result +ℤ pos 1) c.in_ok-bench.bench (rw value (of_sum (horizon p))) asks (root_from p (rules_and p (c.horizon_of-bound.result +ℤ pos 1)) c.in_ok-bench.bench found)
+    first_root_is p (c.horizon_of-bound.result +ℤ pos 1) c.in_ok-bench.bench (rw value (of_sum (horizon p))) asks
+    (root_from p (rules_and p (c.horizon_of-bound.result +ℤ pos 1)) c.in_ok-bench.bench found)

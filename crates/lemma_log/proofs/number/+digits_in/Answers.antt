@@ -12,4 +12,5 @@ pub overflow_add-result : goal.overflow_add-result
 overflow_add-result t c = omega (arith, fits c.args.most c.in_ok-high.high (omega arith) c.in_ok-high.ensures.small, c.in-Some.ensures.byte)
 
 pub returns-clause-small : goal.returns-clause-small
-returns-clause-small t c = more_small c.args.most (c.in-Some.byte - 128) c.in_ok-high.high (omega arith) (omega (arith, c.in-Some.ensures.byte)) c.in_ok-high.ensures.small
+returns-clause-small t c = more_small c.args.most (c.in-Some.byte - 128) c.in_ok-high.high (omega arith)
+    (omega (arith, c.in-Some.ensures.byte)) c.in_ok-high.ensures.small

@@ -6,4 +6,5 @@ use Rattle.lemma_proof.specs.Reasons.{IsKnown, RunsWithin}
 use Rattle.lemma_proof.proofs.clique.all_run_within.Given as goal
 
 abbrev pub invariant-loop-member : goal.invariant-loop-member
-invariant-loop-member l = (exact : Bool) (arcs : List Lag) → IsKnown exact (activity_count l.project) arcs l.weights → All (RunsWithin l.project arcs l.from l.to) (take l.member-index l.members)
+invariant-loop-member l = (exact : Bool) (arcs : List Lag) → IsKnown exact (activity_count l.project) arcs l.weights
+    → All (RunsWithin l.project arcs l.from l.to) (take l.member-index l.members)

@@ -16,7 +16,16 @@ few_members p members is are =
 pub overflow_add-total : goal.overflow_add-total
 overflow_add-total c =
     let few = few_members c.args.project.now c.args.members.now c.duration.ensures.limits c.requires in
-    omega (arith, ints, few, c.loop-member-test.true, c.loop-member.invariant.small, c.unsigned_abs-total.ensures.value, c.duration.ensures.amount.at_least, c.duration.ensures.amount.at_most)
+    omega (
+      arith,
+      ints,
+      few,
+      c.loop-member-test.true,
+      c.loop-member.invariant.small,
+      c.unsigned_abs-total.ensures.value,
+      c.duration.ensures.amount.at_least,
+      c.duration.ensures.amount.at_most,
+    )
 
 pub returns-clause-small : goal.returns-clause-small
 returns-clause-small c =

@@ -9,6 +9,8 @@ take-requires-clause-fills c = fills_wide c.args.arc c.args.dense.now c.requires
 
 pub returns-clause-wide : goal.returns-clause-wide
 returns-clause-wide c =
-    on_ok c.take.result (λ (closes : Bool). IsInserted c.args.arc c.args.dense.now c.take.new.matrix closes) (IsWide (length c.args.dense.now.rows) c.take.new.matrix)
-    (λ closes taken. wide_taken c.args.arc c.args.dense.now c.take.new.matrix closes (rw c.matrix.ensures at c.activity_count.ensures.law) c.requires.wide.full taken)
+    on_ok c.take.result (λ (closes : Bool). IsInserted c.args.arc c.args.dense.now c.take.new.matrix closes)
+    (IsWide (length c.args.dense.now.rows) c.take.new.matrix)
+    (λ closes taken. wide_taken c.args.arc c.args.dense.now c.take.new.matrix closes
+    (rw c.matrix.ensures at c.activity_count.ensures.law) c.requires.wide.full taken)
     c.take.ensures.taken

@@ -19,7 +19,9 @@ loop-arc-preserved-then-implies c = (
   c.loop-arc.invariant.0,
   λ exact arcs m.
       let at = slice_get-get_or c.args.lemma.now c.loop-arc.arc-index zero_arc c.loop-arc-test.true in
-      before_implied exact arcs c.args.lemma.now c.loop-arc.arc-index (get_or c.args.lemma.now c.loop-arc.arc-index zero_arc) c.loop-arc.left at ((c.implies.ensures exact arcs m).shown c.if-implies.true) (c.loop-arc.invariant.1 exact arcs m),
+      before_implied exact arcs c.args.lemma.now c.loop-arc.arc-index
+      (get_or c.args.lemma.now c.loop-arc.arc-index zero_arc) c.loop-arc.left at
+      ((c.implies.ensures exact arcs m).shown c.if-implies.true) (c.loop-arc.invariant.1 exact arcs m),
 )
 
 pub loop-arc-preserved : goal.loop-arc-preserved
@@ -29,17 +31,25 @@ loop-arc-preserved c = (
       let at = slice_get-get_or c.args.lemma.now c.loop-arc.arc-index zero_arc c.loop-arc-test.true in
       let none : c.loop-arc.left ≡ None = no_left c.loop-arc.left (sym c.is_some.ensures ∙ c.if-is_some.false) in
       let all : AllBefore arcs c.args.lemma.now c.loop-arc.arc-index = rw none at (c.loop-arc.invariant.1 exact arcs m) in
-      before_left exact arcs c.args.lemma.now c.loop-arc.arc-index (get_or c.args.lemma.now c.loop-arc.arc-index zero_arc) at (λ sure. tells_false (c.implies.ensures exact arcs m) c.if-implies.false sure) all,
+      before_left exact arcs c.args.lemma.now c.loop-arc.arc-index
+      (get_or c.args.lemma.now c.loop-arc.arc-index zero_arc) at
+      (λ sure. tells_false (c.implies.ensures exact arcs m) c.if-implies.false sure) all,
 )
 
 pub returns-then-is_some-clause-left : goal.returns-then-is_some-clause-left
 returns-then-is_some-clause-left c = λ exact arcs m.
     let at = slice_get-get_or c.args.lemma.now c.loop-arc.arc-index zero_arc c.loop-arc-test.true in
-    second_left exact arcs c.args.lemma.now c.loop-arc.arc-index (get_or c.args.lemma.now c.loop-arc.arc-index zero_arc) c.loop-arc.left (sym c.is_some.ensures ∙ c.if-is_some.true) at (λ sure. tells_false (c.implies.ensures exact arcs m) c.if-implies.false sure) (c.loop-arc.invariant.1 exact arcs m)
+    second_left exact arcs c.args.lemma.now c.loop-arc.arc-index (get_or c.args.lemma.now c.loop-arc.arc-index zero_arc)
+    c.loop-arc.left (sym c.is_some.ensures ∙ c.if-is_some.true) at
+    (λ sure. tells_false (c.implies.ensures exact arcs m) c.if-implies.false sure)
+    (c.loop-arc.invariant.1 exact arcs m)
 
 pub returns-clause-there : goal.returns-clause-there
-returns-clause-there c = rw c.or.ensures (there_at_end c.args.lemma.now c.loop-arc.left c.copied.result (c.copied.ensures ∙ c.first.ensures.value) c.loop-arc.invariant.0)
+returns-clause-there c = rw c.or.ensures
+    (there_at_end c.args.lemma.now c.loop-arc.left c.copied.result (c.copied.ensures ∙ c.first.ensures.value)
+    c.loop-arc.invariant.0)
 
 pub returns-clause-left : goal.returns-clause-left
 returns-clause-left c = λ exact arcs m.
-    rw c.or.ensures (left_at_end exact arcs c.args.lemma.now c.loop-arc.arc-index c.loop-arc.left c.copied.result c.loop-arc-test.false (c.copied.ensures ∙ c.first.ensures.value) (c.loop-arc.invariant.1 exact arcs m))
+    rw c.or.ensures (left_at_end exact arcs c.args.lemma.now c.loop-arc.arc-index c.loop-arc.left c.copied.result
+    c.loop-arc-test.false (c.copied.ensures ∙ c.first.ensures.value) (c.loop-arc.invariant.1 exact arcs m))

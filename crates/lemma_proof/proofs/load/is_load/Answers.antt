@@ -11,9 +11,25 @@ pub overflow_mul-result : goal.overflow_mul-result
 overflow_mul-result c =
     let from_fits : SFits w64 c.args.from = search rules in
     let to_fits : SFits w64 c.args.to = search rules in
-    let units_fits : SFits w64 (c.args.to -ℤ c.args.from) = omega (arith, ints, c.requires.from_time.at_least, c.requires.from_time.at_most, c.requires.to_time.at_least, c.requires.to_time.at_most) in
+    let units_fits : SFits w64 (c.args.to -ℤ c.args.from) =
+    omega (
+      arith,
+      ints,
+      c.requires.from_time.at_least,
+      c.requires.from_time.at_most,
+      c.requires.to_time.at_least,
+      c.requires.to_time.at_most,
+    ) in
     let units : c.unsigned_abs-units.result ≡ unsigned_abs (c.args.to -ℤ c.args.from) = simp to_z-of_z at c.unsigned_abs-units.ensures.value in
-    let short : c.unsigned_abs-units.result ≤ 20000000000 = omega (arith, ints, c.requires.from_time.at_least, c.requires.from_time.at_most, c.requires.to_time.at_least, c.requires.to_time.at_most) in
+    let short : c.unsigned_abs-units.result ≤ 20000000000 =
+    omega (
+      arith,
+      ints,
+      c.requires.from_time.at_least,
+      c.requires.from_time.at_most,
+      c.requires.to_time.at_least,
+      c.requires.to_time.at_most,
+    ) in
     let little : c.capacity.result ≤ 1000000 = omega (arith, ints, c.capacity.ensures.amount) in
     omega (arith, mul-le c.unsigned_abs-units.result c.capacity.result 20000000000 1000000 short little)
 
@@ -21,12 +37,22 @@ pub returns : goal.returns
 returns c = λ exact arcs m.
     let from_fits : SFits w64 c.args.from = search rules in
     let to_fits : SFits w64 c.args.to = search rules in
-    let units_fits : SFits w64 (c.args.to -ℤ c.args.from) = omega (arith, ints, c.requires.from_time.at_least, c.requires.from_time.at_most, c.requires.to_time.at_least, c.requires.to_time.at_most) in
+    let units_fits : SFits w64 (c.args.to -ℤ c.args.from) =
+    omega (
+      arith,
+      ints,
+      c.requires.from_time.at_least,
+      c.requires.from_time.at_most,
+      c.requires.to_time.at_least,
+      c.requires.to_time.at_most,
+    ) in
     let units : c.unsigned_abs-units.result ≡ unsigned_abs (c.args.to -ℤ c.args.from) = simp to_z-of_z at c.unsigned_abs-units.ensures.value in
     let some : c.args.from <ℤ c.args.to = grind (arith, ints, c.if-from-to.false) in
-    let load : c.load.result ≡ load_of c.args.project.now c.args.weights.now.rows c.args.resource c.args.from c.args.to (activities c.args.project.now) = simp to_z-of_z at c.load.ensures in record {
+    let load : c.load.result ≡ load_of c.args.project.now c.args.weights.now.rows c.args.resource c.args.from c.args.to
+    (activities c.args.project.now) = simp to_z-of_z at c.load.ensures in record {
       shown = λ yes.
-          let over : c.unsigned_abs-units.result * c.capacity.result < c.load.result = ltb-true (c.unsigned_abs-units.result * c.capacity.result) c.load.result yes in
+          let over : c.unsigned_abs-units.result * c.capacity.result < c.load.result =
+          ltb-true (c.unsigned_abs-units.result * c.capacity.result) c.load.result yes in
           record {
             in_range = omega (arith, c.if-resource-resource_count.false, c.resource_count.ensures.value);
             units = c.unsigned_abs-units.result;
@@ -39,7 +65,9 @@ returns c = λ exact arcs m.
       only = λ sure (k : IsLoad c.args.project.now arcs c.args.resource c.args.from c.args.to).
           let most = load_most c.args.project.now arcs c.args.weights.now.rows c.args.resource c.args.from c.args.to k (m.matrix sure) in
           let long : k.units ≡ c.unsigned_abs-units.result = omega (arith, ints, k.window) in
-          let exceeds : c.unsigned_abs-units.result * capacity c.args.project.now c.args.resource < sum_by (λ i. k.parts i * demand c.args.project.now c.args.resource i) (activities c.args.project.now) = rw long at k.over in
+          let exceeds : c.unsigned_abs-units.result * capacity c.args.project.now c.args.resource < sum_by
+          (λ i. k.parts i * demand c.args.project.now c.args.resource i) (activities c.args.project.now) =
+          rw long at k.over in
           let over : c.unsigned_abs-units.result * capacity c.args.project.now c.args.resource < c.load.result = omega (arith, exceeds, most, load) in
           let tested : c.unsigned_abs-units.result * c.capacity.result < c.load.result = rw c.capacity.ensures.value over in
           lt-ltb (c.unsigned_abs-units.result * c.capacity.result) c.load.result tested;

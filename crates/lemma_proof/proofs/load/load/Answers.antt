@@ -12,10 +12,14 @@ loop-activity-preserved c =
     let from_fits : SFits w64 c.args.from = search rules in
     let to_fits : SFits w64 c.args.to = search rules in
     let n = c.loop-activity.activity in
-    let part : c.part-part.result ≡ part_of c.args.project.now c.args.weights.now.rows c.args.from c.args.to c.loop-activity.activity = simp to_z-of_z at c.part-part.ensures.value in
-    let before : c.loop-activity.total ≡ load_of c.args.project.now c.args.weights.now.rows c.args.resource c.args.from c.args.to (range_with_len 0 c.loop-activity.activity) = simp to_z-of_z at c.loop-activity.invariant.so_far in
+    let part : c.part-part.result ≡ part_of c.args.project.now c.args.weights.now.rows c.args.from c.args.to
+    c.loop-activity.activity = simp to_z-of_z at c.part-part.ensures.value in
+    let before : c.loop-activity.total ≡ load_of c.args.project.now c.args.weights.now.rows c.args.resource c.args.from
+    c.args.to (range_with_len 0 c.loop-activity.activity) = simp to_z-of_z at c.loop-activity.invariant.so_far in
     let more = load_more c.args.project.now c.args.weights.now.rows c.args.resource c.args.from c.args.to n in
-    let same : c.part-part.result * c.demand.result ≡ part_of c.args.project.now c.args.weights.now.rows c.args.from c.args.to c.loop-activity.activity * demand c.args.project.now c.args.resource c.loop-activity.activity = rw (part, c.demand.ensures.value) (same_as _) in
+    let same : c.part-part.result * c.demand.result ≡ part_of c.args.project.now c.args.weights.now.rows c.args.from
+    c.args.to c.loop-activity.activity * demand c.args.project.now c.args.resource c.loop-activity.activity =
+    rw (part, c.demand.ensures.value) (same_as _) in
     let little : c.demand.result ≤ 1000000 = omega (arith, ints, c.demand.ensures.amount) in
     let product = mul-le c.part-part.result c.demand.result 1000000 1000000 c.part-part.ensures.small little in
     record {
@@ -30,6 +34,13 @@ pub returns : goal.returns
 returns c =
     let from_fits : SFits w64 c.args.from = search rules in
     let to_fits : SFits w64 c.args.to = search rules in
-    let past : c.loop-activity.activity ≡ activity_count c.args.project.now = omega (arith, c.loop-activity-test.false, c.loop-activity.auto.activity-end, c.activity_count-activity-end.ensures.value) in
-    let so_far : c.loop-activity.total ≡ load_of c.args.project.now c.args.weights.now.rows c.args.resource c.args.from c.args.to (range_with_len 0 c.loop-activity.activity) = simp to_z-of_z at c.loop-activity.invariant.so_far in
+    let past : c.loop-activity.activity ≡ activity_count c.args.project.now =
+    omega (
+      arith,
+      c.loop-activity-test.false,
+      c.loop-activity.auto.activity-end,
+      c.activity_count-activity-end.ensures.value,
+    ) in
+    let so_far : c.loop-activity.total ≡ load_of c.args.project.now c.args.weights.now.rows c.args.resource c.args.from
+    c.args.to (range_with_len 0 c.loop-activity.activity) = simp to_z-of_z at c.loop-activity.invariant.so_far in
     rw past at so_far

@@ -14,7 +14,16 @@ overflow_add-head c =
 pub overflow_sub-head : goal.overflow_sub-head
 overflow_sub-head c =
     let small : IsWithin MAX_KNOWN_WEIGHT c.in-Some-Some.head = rw c.in-Some-Some.is-0 at c.get-head.ensures.fits in
-    omega (arith, ints, small.at_least, small.at_most, c.duration-duration.ensures.amount.at_least, c.duration-duration.ensures.amount.at_most, c.requires.from_time.at_least, c.requires.from_time.at_most)
+    omega (
+      arith,
+      ints,
+      small.at_least,
+      small.at_most,
+      c.duration-duration.ensures.amount.at_least,
+      c.duration-duration.ensures.amount.at_most,
+      c.requires.from_time.at_least,
+      c.requires.from_time.at_most,
+    )
 
 pub overflow_add-to : goal.overflow_add-to
 overflow_add-to c =
@@ -30,16 +39,52 @@ returns-clause-value c =
     let long_fits : SFits w64 c.duration-duration.result = search rules in
     let head_fits : SFits w64 c.in-Some-Some.head = search rules in
     let back_fits : SFits w64 c.in-Some-Some.back = search rules in
-    let units_fits : SFits w64 (c.args.to -ℤ c.args.from) = omega (arith, ints, c.requires.from_time.at_least, c.requires.from_time.at_most, c.requires.to_time.at_least, c.requires.to_time.at_most) in
-    let end_fits : SFits w64 (c.in-Some-Some.head +ℤ c.duration-duration.result) = omega (arith, ints, head_small.at_least, head_small.at_most, c.duration-duration.ensures.amount.at_least, c.duration-duration.ensures.amount.at_most) in
-    let left_fits : SFits w64 ((c.in-Some-Some.head +ℤ c.duration-duration.result) -ℤ c.args.from) = omega (arith, ints, head_small.at_least, head_small.at_most, c.duration-duration.ensures.amount.at_least, c.duration-duration.ensures.amount.at_most, c.requires.from_time.at_least, c.requires.from_time.at_most) in
-    let late_fits : SFits w64 (c.args.to +ℤ c.in-Some-Some.back) = omega (arith, ints, back_small.at_least, back_small.at_most, c.requires.to_time.at_least, c.requires.to_time.at_most) in
+    let units_fits : SFits w64 (c.args.to -ℤ c.args.from) =
+    omega (
+      arith,
+      ints,
+      c.requires.from_time.at_least,
+      c.requires.from_time.at_most,
+      c.requires.to_time.at_least,
+      c.requires.to_time.at_most,
+    ) in
+    let end_fits : SFits w64 (c.in-Some-Some.head +ℤ c.duration-duration.result) =
+    omega (
+      arith,
+      ints,
+      head_small.at_least,
+      head_small.at_most,
+      c.duration-duration.ensures.amount.at_least,
+      c.duration-duration.ensures.amount.at_most,
+    ) in
+    let left_fits : SFits w64 ((c.in-Some-Some.head +ℤ c.duration-duration.result) -ℤ c.args.from) =
+    omega (
+      arith,
+      ints,
+      head_small.at_least,
+      head_small.at_most,
+      c.duration-duration.ensures.amount.at_least,
+      c.duration-duration.ensures.amount.at_most,
+      c.requires.from_time.at_least,
+      c.requires.from_time.at_most,
+    ) in
+    let late_fits : SFits w64 (c.args.to +ℤ c.in-Some-Some.back) =
+    omega (
+      arith,
+      ints,
+      back_small.at_least,
+      back_small.at_most,
+      c.requires.to_time.at_least,
+      c.requires.to_time.at_most,
+    ) in
     let first_fits : SFits w64 c.min.result = search rules in
     let second_fits : SFits w64 c.min-early.result = search rules in
     let third_fits : SFits w64 c.min-2.result = search rules in
     let last_fits : SFits w64 c.max.result = search rules in
     let first : c.min.result ≡ int_min c.duration-duration.result (c.args.to -ℤ c.args.from) = simp to_z-of_z at c.min.ensures.value in
-    let second : c.min-early.result ≡ int_min c.min.result ((c.in-Some-Some.head +ℤ c.duration-duration.result) -ℤ c.args.from) = simp to_z-of_z at c.min-early.ensures.value in
+    let second : c.min-early.result ≡ int_min c.min.result
+    ((c.in-Some-Some.head +ℤ c.duration-duration.result) -ℤ c.args.from) =
+    simp to_z-of_z at c.min-early.ensures.value in
     let third : c.min-2.result ≡ int_min c.min-early.result (c.args.to +ℤ c.in-Some-Some.back) = simp to_z-of_z at c.min-2.ensures.value in
     let last : c.max.result ≡ int_max c.min-2.result (pos 0) = simp to_z-of_z at c.max.ensures.value in
     let abs : c.unsigned_abs.result ≡ unsigned_abs c.max.result = simp to_z-of_z at c.unsigned_abs.ensures.value in

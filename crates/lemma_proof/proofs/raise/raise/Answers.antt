@@ -18,7 +18,8 @@ loop-k-preserved c =
     let via_small : IsWithin MAX_WALK_WEIGHT (start c.args.via.now c.loop-k.k) = c.requires.via k low in
     let via_fits : SFits w32 (get_or c.args.via.now c.loop-k.k (pos 0)) = search rules in
     let row_fits : SFits w32 (get_or c.loop-k.row c.loop-k.k (pos 0)) = search rules in
-    let sum_fits : SFits w32 (c.args.by +ℤ get_or c.args.via.now c.loop-k.k (pos 0)) = omega (arith, ints, c.requires.by.at_least, c.requires.by.at_most, via_small.at_least, via_small.at_most) in
+    let sum_fits : SFits w32 (c.args.by +ℤ get_or c.args.via.now c.loop-k.k (pos 0)) =
+    omega (arith, ints, c.requires.by.at_least, c.requires.by.at_most, via_small.at_least, via_small.at_most) in
     let max_fits : SFits w32 c.max.result = search rules in
     let new : c.max.result ≡ int_max (start c.loop-k.row c.loop-k.k) (c.args.by +ℤ start c.args.via.now c.loop-k.k) = simp to_z-of_z at c.max.ensures.value in
     simp to_z-of_z (raised_more k c.args.by c.max.result c.args.via.now c.args.row.now c.loop-k.row (simp to_z-of_z at c.loop-k.invariant) (omega arith) new)

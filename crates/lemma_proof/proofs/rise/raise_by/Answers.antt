@@ -28,7 +28,8 @@ overflow_add-way-2 c =
     let way = way_small (table_rows c.args.table.now) c.args.there.now c.args.back.now c.args.arc c.requires.table c.requires.both c.requires.light in
     let weight_fits : SFits w64 c.args.arc.weight = search rules in
     let from_fits : SFits w64 c.weight_at.result = search rules in
-    let home = back_small (table_rows c.args.table.now) c.args.there.now c.args.back.now c.requires.table c.requires.both c.args.arc.to c.requires.light.to_activity in
+    let home = back_small (table_rows c.args.table.now) c.args.there.now c.args.back.now c.requires.table
+    c.requires.both c.args.arc.to c.requires.light.to_activity in
     let back_fits : SFits w64 c.weight_at-3.result = search rules in
     let way_fits : SFits w64 (c.weight_at.result +ℤ c.args.arc.weight) = omega (arith, ints, c.weight_at.ensures, way.at_least, way.at_most) in
     simp to_z-of_z (omega (arith, ints, c.weight_at.ensures, c.weight_at-3.ensures, way.at_least, way.at_most, home.at_least, home.at_most))
@@ -38,11 +39,23 @@ returns-then-exceeds-clause-raised c =
     let way = way_small (table_rows c.args.table.now) c.args.there.now c.args.back.now c.args.arc c.requires.table c.requires.both c.requires.light in
     let weight_fits : SFits w64 c.args.arc.weight = search rules in
     let from_fits : SFits w64 c.weight_at.result = search rules in
-    let home = back_small (table_rows c.args.table.now) c.args.there.now c.args.back.now c.requires.table c.requires.both c.args.arc.to c.requires.light.to_activity in
+    let home = back_small (table_rows c.args.table.now) c.args.there.now c.args.back.now c.requires.table
+    c.requires.both c.args.arc.to c.requires.light.to_activity in
     let back_fits : SFits w64 c.weight_at-3.result = search rules in
     let way_fits : SFits w64 (c.weight_at.result +ℤ c.args.arc.weight) = omega (arith, ints, c.weight_at.ensures, way.at_least, way.at_most) in
-    let round_fits : SFits w64 ((c.weight_at.result +ℤ c.args.arc.weight) +ℤ c.weight_at-3.result) = omega (arith, ints, c.weight_at.ensures, c.weight_at-3.ensures, way.at_least, way.at_most, home.at_least, home.at_most) in
-    let above : pos 0 <ℤ ((c.weight_at.result +ℤ c.args.arc.weight) +ℤ c.weight_at-3.result) = simp to_z-of_z at (rw c.if-exceeds.true at c.exceeds-2.ensures) in
+    let round_fits : SFits w64 ((c.weight_at.result +ℤ c.args.arc.weight) +ℤ c.weight_at-3.result) =
+    omega (
+      arith,
+      ints,
+      c.weight_at.ensures,
+      c.weight_at-3.ensures,
+      way.at_least,
+      way.at_most,
+      home.at_least,
+      home.at_most,
+    ) in
+    let above : pos 0 <ℤ ((c.weight_at.result +ℤ c.args.arc.weight) +ℤ c.weight_at-3.result) =
+    simp to_z-of_z at (rw c.if-exceeds.true at c.exceeds-2.ensures) in
     record { arc = c.args.arc; among = (0, omega arith, refl); above = rw (sym c.weight_at.ensures, sym c.weight_at-3.ensures) above }
 
 pub raise_to-requires-clause-small : goal.raise_to-requires-clause-small
@@ -51,27 +64,57 @@ raise_to-requires-clause-small c =
     let weight_fits : SFits w64 c.args.arc.weight = search rules in
     let from_fits : SFits w64 c.weight_at.result = search rules in
     let to_fits : SFits w64 c.weight_at-2.result = search rules in
-    let home = back_small (table_rows c.args.table.now) c.args.there.now c.args.back.now c.requires.table c.requires.both c.args.arc.to c.requires.light.to_activity in
+    let home = back_small (table_rows c.args.table.now) c.args.there.now c.args.back.now c.requires.table
+    c.requires.both c.args.arc.to c.requires.light.to_activity in
     let back_fits : SFits w64 c.weight_at-3.result = search rules in
     let way_fits : SFits w64 (c.weight_at.result +ℤ c.args.arc.weight) = omega (arith, ints, c.weight_at.ensures, way.at_least, way.at_most) in
-    let round_fits : SFits w64 ((c.weight_at.result +ℤ c.args.arc.weight) +ℤ c.weight_at-3.result) = omega (arith, ints, c.weight_at.ensures, c.weight_at-3.ensures, way.at_least, way.at_most, home.at_least, home.at_most) in
+    let round_fits : SFits w64 ((c.weight_at.result +ℤ c.args.arc.weight) +ℤ c.weight_at-3.result) =
+    omega (
+      arith,
+      ints,
+      c.weight_at.ensures,
+      c.weight_at-3.ensures,
+      way.at_least,
+      way.at_most,
+      home.at_least,
+      home.at_most,
+    ) in
     let more : c.weight_at-2.result <ℤ (c.weight_at.result +ℤ c.args.arc.weight) = simp to_z-of_z at (rw c.if-not-exceeds.false at c.exceeds.ensures) in
     let most : c.weight_at-2.result ≤ℤ (c.weight_at.result +ℤ c.args.arc.weight) = omega (arith, ints, more) in
-    let closed : ((c.weight_at.result +ℤ c.args.arc.weight) +ℤ c.weight_at-3.result) ≤ℤ pos 0 = simp to_z-of_z at (rw c.if-exceeds.false at c.exceeds-2.ensures) in
-    simp to_z-of_z (way_between (table_rows c.args.table.now) c.args.there.now c.args.back.now (c.weight_at.result +ℤ c.args.arc.weight) c.args.arc.to c.requires.table c.requires.both c.requires.light.to_activity (rw (sym c.weight_at-2.ensures) most) (rw (sym c.weight_at-3.ensures) closed))
+    let closed : ((c.weight_at.result +ℤ c.args.arc.weight) +ℤ c.weight_at-3.result) ≤ℤ pos 0 =
+    simp to_z-of_z at (rw c.if-exceeds.false at c.exceeds-2.ensures) in
+    simp to_z-of_z (way_between (table_rows c.args.table.now) c.args.there.now c.args.back.now
+    (c.weight_at.result +ℤ c.args.arc.weight) c.args.arc.to c.requires.table c.requires.both
+    c.requires.light.to_activity (rw (sym c.weight_at-2.ensures) most) (rw (sym c.weight_at-3.ensures) closed))
 
 pub returns-clause-risen : goal.returns-clause-risen
 returns-clause-risen c =
     let way = way_small (table_rows c.args.table.now) c.args.there.now c.args.back.now c.args.arc c.requires.table c.requires.both c.requires.light in
     let weight_fits : SFits w64 c.args.arc.weight = search rules in
     let from_fits : SFits w64 c.weight_at.result = search rules in
-    let home = back_small (table_rows c.args.table.now) c.args.there.now c.args.back.now c.requires.table c.requires.both c.args.arc.to c.requires.light.to_activity in
+    let home = back_small (table_rows c.args.table.now) c.args.there.now c.args.back.now c.requires.table
+    c.requires.both c.args.arc.to c.requires.light.to_activity in
     let back_fits : SFits w64 c.weight_at-3.result = search rules in
     let way_fits : SFits w64 (c.weight_at.result +ℤ c.args.arc.weight) = omega (arith, ints, c.weight_at.ensures, way.at_least, way.at_most) in
-    let round_fits : SFits w64 ((c.weight_at.result +ℤ c.args.arc.weight) +ℤ c.weight_at-3.result) = omega (arith, ints, c.weight_at.ensures, c.weight_at-3.ensures, way.at_least, way.at_most, home.at_least, home.at_most) in
-    let closed : ((c.weight_at.result +ℤ c.args.arc.weight) +ℤ c.weight_at-3.result) ≤ℤ pos 0 = simp to_z-of_z at (rw c.if-exceeds.false at c.exceeds-2.ensures) in
-    let raised : IsRaised (table_rows c.args.table.now) c.args.arc.to (start c.args.there.now c.args.arc.from +ℤ c.args.arc.weight) c.args.there.now c.raise_to.new.there = rw c.weight_at.ensures at (simp to_z-of_z at c.raise_to.ensures) in
-    risen_raised (table_rows c.args.table.now) c.args.arc c.args.there.now c.args.back.now c.raise_to.new.there c.requires.table c.requires.light c.requires.both (rw (sym c.weight_at.ensures, sym c.weight_at-3.ensures) closed) raised
+    let round_fits : SFits w64 ((c.weight_at.result +ℤ c.args.arc.weight) +ℤ c.weight_at-3.result) =
+    omega (
+      arith,
+      ints,
+      c.weight_at.ensures,
+      c.weight_at-3.ensures,
+      way.at_least,
+      way.at_most,
+      home.at_least,
+      home.at_most,
+    ) in
+    let closed : ((c.weight_at.result +ℤ c.args.arc.weight) +ℤ c.weight_at-3.result) ≤ℤ pos 0 =
+    simp to_z-of_z at (rw c.if-exceeds.false at c.exceeds-2.ensures) in
+    let raised : IsRaised (table_rows c.args.table.now) c.args.arc.to
+    (start c.args.there.now c.args.arc.from +ℤ c.args.arc.weight) c.args.there.now c.raise_to.new.there =
+    rw c.weight_at.ensures at (simp to_z-of_z at c.raise_to.ensures) in
+    risen_raised (table_rows c.args.table.now) c.args.arc c.args.there.now c.args.back.now c.raise_to.new.there
+    c.requires.table c.requires.light c.requires.both
+    (rw (sym c.weight_at.ensures, sym c.weight_at-3.ensures) closed) raised
 
 pub returns-clause-raised : goal.returns-clause-raised
 returns-clause-raised c =
@@ -79,5 +122,9 @@ returns-clause-raised c =
     let weight_fits : SFits w64 c.args.arc.weight = search rules in
     let from_fits : SFits w64 c.weight_at.result = search rules in
     let way_fits : SFits w64 (c.weight_at.result +ℤ c.args.arc.weight) = omega (arith, ints, c.weight_at.ensures, way.at_least, way.at_most) in
-    let raised : IsRaised (table_rows c.args.table.now) c.args.arc.to (start c.args.there.now c.args.arc.from +ℤ c.args.arc.weight) c.args.there.now c.raise_to.new.there = rw c.weight_at.ensures at (simp to_z-of_z at c.raise_to.ensures) in
-    raised_over (table_rows c.args.table.now) c.args.arc.to (start c.args.there.now c.args.arc.from +ℤ c.args.arc.weight) c.args.there.now c.raise_to.new.there c.requires.table c.requires.light.to_activity raised
+    let raised : IsRaised (table_rows c.args.table.now) c.args.arc.to
+    (start c.args.there.now c.args.arc.from +ℤ c.args.arc.weight) c.args.there.now c.raise_to.new.there =
+    rw c.weight_at.ensures at (simp to_z-of_z at c.raise_to.ensures) in
+    raised_over (table_rows c.args.table.now) c.args.arc.to
+    (start c.args.there.now c.args.arc.from +ℤ c.args.arc.weight) c.args.there.now c.raise_to.new.there
+    c.requires.table c.requires.light.to_activity raised

@@ -15,5 +15,11 @@ returns c =
     let items = ap length (c.as_mut_slice.ensures.value ∙ ap (λ (row : Vec ℤ Global). row.items) here) in
     let long = c.raise_over.ensures.long in
     let whole : c.index-table-a.result.len ≡ length c.raise_over.new.row = omega (arith, long, items) in
-    let all = written (get_or c.args.table.now c.args.a c.index-table-a.result).len (get_or c.args.table.now c.args.a c.index-table-a.result).items c.raise_over.new.row (ap (λ (row : Vec ℤ Global). row.len) here ∙ whole) in
-    (c.raise_over.new.row, map-set (λ (row : Vec ℤ Global). row.items) c.args.table.now c.args.a _ ∙ ap (λ (row : List ℤ). set (cells_of c.args.table.now) c.args.a row) all, taken)
+    let all = written (get_or c.args.table.now c.args.a c.index-table-a.result).len
+    (get_or c.args.table.now c.args.a c.index-table-a.result).items c.raise_over.new.row
+    (ap (λ (row : Vec ℤ Global). row.len) here ∙ whole) in (
+      c.raise_over.new.row,
+      map-set (λ (row : Vec ℤ Global). row.items) c.args.table.now c.args.a _
+          ∙ ap (λ (row : List ℤ). set (cells_of c.args.table.now) c.args.a row) all,
+      taken,
+    )

@@ -8,7 +8,9 @@ use Rattle.lemma_proof.proofs.shows.pushed_arc.Goals as goal
 
 pub returns-in_default-clause-shown : goal.returns-in_default-clause-shown
 returns-in_default-clause-shown c = λ arcs m.
-    rw c.in_default.is (told_exact (activity_count c.args.project.now) c.args.matrix.now c.of.result c.ended_arc.result (λ (all : List Lag) (e : Lag). IsOverload c.args.project.now all c.args.over.now × (e ≡ impossible)) c.of.ensures c.ended_arc.ensures.told arcs m)
+    rw c.in_default.is (told_exact (activity_count c.args.project.now) c.args.matrix.now c.of.result c.ended_arc.result
+    (λ (all : List Lag) (e : Lag). IsOverload c.args.project.now all c.args.over.now × (e ≡ impossible))
+    c.of.ensures c.ended_arc.ensures.told arcs m)
 
 pub returns-else-is_pushed-clause-shown : goal.returns-else-is_pushed-clause-shown
 returns-else-is_pushed-clause-shown c = λ arcs m e pushed.

@@ -7,7 +7,8 @@ use Rattle.lemma_proof.proofs.table.column.Goals as goal
 pub loop-a-preserved : goal.loop-a-preserved
 loop-a-preserved c =
     let fits : SFits w32 c.cell.result = search rules in
-    appended_more (λ a. cell c.args.matrix.now a c.args.b) 0 c.loop-a.a c.loop-a.a _ [] c.loop-a.cells.items c.push.new.self.items c.loop-a.invariant c.in_ok-push.ensures.items (omega arith)
+    appended_more (λ a. cell c.args.matrix.now a c.args.b) 0 c.loop-a.a c.loop-a.a _ [] c.loop-a.cells.items
+    c.push.new.self.items c.loop-a.invariant c.in_ok-push.ensures.items (omega arith)
     (to_z-of_z w32 c.cell.result fits ∙ c.cell.ensures)
 
 pub returns : goal.returns

@@ -7,7 +7,8 @@ use Rattle.lemma_proof.proofs.table.row.Goals as goal
 pub loop-b-preserved : goal.loop-b-preserved
 loop-b-preserved c =
     let fits : SFits w32 c.cell.result = search rules in
-    appended_more (λ b. cell c.args.matrix.now c.args.a b) 0 c.loop-b.b c.loop-b.b _ [] c.loop-b.cells.items c.push.new.self.items c.loop-b.invariant c.in_ok-push.ensures.items (omega arith)
+    appended_more (λ b. cell c.args.matrix.now c.args.a b) 0 c.loop-b.b c.loop-b.b _ [] c.loop-b.cells.items
+    c.push.new.self.items c.loop-b.invariant c.in_ok-push.ensures.items (omega arith)
     (to_z-of_z w32 c.cell.result fits ∙ c.cell.ensures)
 
 pub returns : goal.returns

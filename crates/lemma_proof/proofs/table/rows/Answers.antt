@@ -6,8 +6,12 @@ use Rattle.lemma_proof.proofs.table.rows.Goals as goal
 
 pub loop-a-preserved : goal.loop-a-preserved
 loop-a-preserved c =
-    let items : map (λ cells. cells.items) c.push.new.self.items ≡ map (λ cells. cells.items) c.loop-a.table.items ++ c.in_ok-row.field-0.items ∷ [] = ap (map (λ (cells : Vec ℤ Global). cells.items)) c.in_ok-push.ensures.items ∙ map-append (λ (cells : Vec ℤ Global). cells.items) c.loop-a.table.items (c.in_ok-row.field-0 ∷ []) in
-    appended_more (row_cells c.args.matrix.now) 0 c.loop-a.a c.loop-a.a _ [] (map (λ cells. cells.items) c.loop-a.table.items) (map (λ cells. cells.items) c.push.new.self.items) c.loop-a.invariant items (omega arith) c.in_ok-row.ensures
+    let items : map (λ cells. cells.items) c.push.new.self.items ≡ map (λ cells. cells.items) c.loop-a.table.items ++
+    c.in_ok-row.field-0.items ∷ [] = ap (map (λ (cells : Vec ℤ Global). cells.items)) c.in_ok-push.ensures.items
+    ∙ map-append (λ (cells : Vec ℤ Global). cells.items) c.loop-a.table.items (c.in_ok-row.field-0 ∷ []) in
+    appended_more (row_cells c.args.matrix.now) 0 c.loop-a.a c.loop-a.a _ []
+    (map (λ cells. cells.items) c.loop-a.table.items) (map (λ cells. cells.items) c.push.new.self.items)
+    c.loop-a.invariant items (omega arith) c.in_ok-row.ensures
 
 pub returns-clause-rows : goal.returns-clause-rows
 returns-clause-rows c =

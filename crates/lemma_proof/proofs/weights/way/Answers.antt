@@ -15,6 +15,7 @@ returns-in-Some-Some-clause-small c =
     let first : IsWithin MAX_WALK_WEIGHT c.in-Some-Some.first = rw c.in-Some-Some.is-0 at c.requires.first in
     let last : IsWithin MAX_WALK_WEIGHT c.in-Some-Some.last = rw c.in-Some-Some.is-1 at c.requires.last in
     let part : SFits w64 (c.in-Some-Some.first +ℤ c.args.arc) = part_fits x c.args.arc first c.requires.arc in
-    let small : IsWithin MAX_WAY_WEIGHT ((c.in-Some-Some.first +ℤ c.args.arc) +ℤ c.in-Some-Some.last) = way_small x c.args.arc c.in-Some-Some.last first c.requires.arc last in
+    let small : IsWithin MAX_WAY_WEIGHT ((c.in-Some-Some.first +ℤ c.args.arc) +ℤ c.in-Some-Some.last) =
+    way_small x c.args.arc c.in-Some-Some.last first c.requires.arc last in
     let whole : SFits w64 ((c.in-Some-Some.first +ℤ c.args.arc) +ℤ c.in-Some-Some.last) = way_fits _ small in
     simp to_z-of_z small

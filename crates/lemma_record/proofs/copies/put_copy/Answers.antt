@@ -11,6 +11,7 @@ returns-in_default c =
 pub returns : goal.returns
 returns c =
     let at = c.in-Some.ensures.lookup in
-    let is : slice_get c.args.lines.now c.args.place ≡ Some c.in-Some.line.now = slice_get_read c.args.lines.now (length c.args.lines.now) c.args.place c.in-Some.line.now refl at.3.0 at.1 in
+    let is : slice_get c.args.lines.now c.args.place ≡ Some c.in-Some.line.now =
+    slice_get_read c.args.lines.now (length c.args.lines.now) c.args.place c.in-Some.line.now refl at.3.0 at.1 in
     let copy : c.in_ok-line_copy.field-0 ≡ c.in-Some.line.now = c.in_ok-line_copy.ensures in
     rw (is, ← copy) c.in_ok-push.ensures.items

@@ -21,12 +21,16 @@ pub returns-clause-before : goal.returns-clause-before
 returns-clause-before c = λ b lt.
     let wide : SFits w64 c.args.arc.weight = search rules in
     let fits : SFits w32 c.args.arc.weight = walk_fits c.args.arc.weight c.requires.ready.light in
-    let none : (k : ℕ) → k < c.first_gain-from.result → GainsNothingAt c.args.arc.weight c.args.via.now c.row-row.result.now k = simp to_z-of_z at c.first_gain-from.ensures.before in
+    let none : (k : ℕ) → k < c.first_gain-from.result
+    → GainsNothingAt c.args.arc.weight c.args.via.now c.row-row.result.now k =
+    simp to_z-of_z at c.first_gain-from.ensures.before in
     start_gains_nothing c.args.arc c.row-row.result.now c.args.via.now c.args.grid.now b c.row-row.ensures c.requires.via (none b lt)
 
 pub returns-clause-after : goal.returns-clause-after
 returns-clause-after c = λ b le.
     let wide : SFits w64 c.args.arc.weight = search rules in
     let fits : SFits w32 c.args.arc.weight = walk_fits c.args.arc.weight c.requires.ready.light in
-    let none : (k : ℕ) → c.end_of_gains-end.result ≤ k → GainsNothingAt c.args.arc.weight c.args.via.now c.row-row.result.now k = simp to_z-of_z at c.end_of_gains-end.ensures.after in
+    let none : (k : ℕ) → c.end_of_gains-end.result ≤ k
+    → GainsNothingAt c.args.arc.weight c.args.via.now c.row-row.result.now k =
+    simp to_z-of_z at c.end_of_gains-end.ensures.after in
     start_gains_nothing c.args.arc c.row-row.result.now c.args.via.now c.args.grid.now b c.row-row.ensures c.requires.via (none b le)

@@ -12,7 +12,8 @@ loop-i-preserved c =
     let h = c.in_ok-push.ensures.items in
     let u = c.unwrap_or.ensures in
     let g = c.get.ensures.value in
-    appended_more (λ b. unwrap_or (entry c.args.matrix.now 0 b) (pos 0)) 0 c.loop-i.i c.loop-i.i _ [] c.loop-i.starts.items c.push.new.self.items c.loop-i.invariant h (omega arith)
+    appended_more (λ b. unwrap_or (entry c.args.matrix.now 0 b) (pos 0)) 0 c.loop-i.i c.loop-i.i _ []
+    c.loop-i.starts.items c.push.new.self.items c.loop-i.invariant h (omega arith)
     (to_z-of_z w64 c.unwrap_or.result fits ∙ u ∙ ap (λ (o : Option ℤ). unwrap_or o (pos 0)) g)
 
 pub returns-clause-earliest : goal.returns-clause-earliest

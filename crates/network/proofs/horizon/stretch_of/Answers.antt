@@ -21,7 +21,9 @@ loop-lag-preserved c =
     let at : e ≡ get_or c.lags-lag-items.result.now c.loop-lag.lag-index e = get_or_default items k nothing e c.loop-lag-test.true in
     elim c.if-lag-activity.branch [
       | then-lag-activity w ↦
-          let step : to_z w64 c.if-lag-activity.longest-bits ≡ int_max (to_z w64 c.loop-lag.longest-bits) (get_or c.lags-lag-items.result.now c.loop-lag.lag-index nothing).weight = omega (arith, ints, clamps, w.max-longest.ensures.value, w.longest-is) in
+          let step : to_z w64 c.if-lag-activity.longest-bits ≡ int_max (to_z w64 c.loop-lag.longest-bits)
+          (get_or c.lags-lag-items.result.now c.loop-lag.lag-index nothing).weight =
+          omega (arith, ints, clamps, w.max-longest.ensures.value, w.longest-is) in
           record {
             so_far = more_left p i k items e _ _ c.lags-lag-items.ensures.value c.loop-lag-test.true at w.if-lag-activity.true step c.loop-lag.invariant.so_far;
             amount = left_amount p k items nothing _ _ is c.lags-lag-items.ensures.value c.loop-lag-test.true step c.loop-lag.invariant.amount;
@@ -29,7 +31,8 @@ loop-lag-preserved c =
       | else-lag-activity w ↦
           let same : to_z w64 c.if-lag-activity.longest-bits ≡ to_z w64 c.loop-lag.longest-bits = w.longest-is in
           record {
-            so_far = more_kept p i k items e _ _ c.lags-lag-items.ensures.value c.loop-lag-test.true at w.if-lag-activity.false same c.loop-lag.invariant.so_far;
+            so_far = more_kept p i k items e _ _ c.lags-lag-items.ensures.value c.loop-lag-test.true at
+                w.if-lag-activity.false same c.loop-lag.invariant.so_far;
             amount = rw same c.loop-lag.invariant.amount;
           }
     ]

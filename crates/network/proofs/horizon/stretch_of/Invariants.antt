@@ -7,6 +7,7 @@ use Rattle.network.proofs.horizon.stretch_of.Given as goal
 -- the greatest so far
 abbrev pub invariant-loop-lag : goal.invariant-loop-lag
 invariant-loop-lag l = record {
-  so_far : l.longest ≡ fold int_max (duration l.project l.activity) (map (λ e. e.weight) (filter (λ e. e.from == l.activity) (take l.lag-index l.project.lags)));
+  so_far : l.longest ≡ fold int_max (duration l.project l.activity)
+      (map (λ e. e.weight) (filter (λ e. e.from == l.activity) (take l.lag-index l.project.lags)));
   amount : IsAmount l.longest;
 }

@@ -12,10 +12,13 @@ pub loop-node-preserved : goal.loop-node-preserved
 loop-node-preserved c =
     let lt : c.loop-node.node-index < length c.args.nodes.now = omega arith in
     let more = take_more c.args.nodes.now c.loop-node.node-index c.node-item.result lt in
-    let items : map arc_value (take (c.loop-node.node-index + 1) c.args.nodes.now) ≡ map arc_value (take c.loop-node.node-index c.args.nodes.now) ++ arc_value c.node-item.result ∷ [] =
-    ap (map arc_value) (more ∙ ap (λ x. take c.loop-node.node-index c.args.nodes.now ++ x ∷ []) (sym c.node-item.is)) ∙ map-append arc_value (take c.loop-node.node-index c.args.nodes.now) (c.node-item.result ∷ []) in
+    let items : map arc_value (take (c.loop-node.node-index + 1) c.args.nodes.now) ≡ map arc_value
+    (take c.loop-node.node-index c.args.nodes.now) ++ arc_value c.node-item.result ∷ [] =
+    ap (map arc_value) (more ∙ ap (λ x. take c.loop-node.node-index c.args.nodes.now ++ x ∷ []) (sym c.node-item.is))
+    ∙ map-append arc_value (take c.loop-node.node-index c.args.nodes.now) (c.node-item.result ∷ []) in
     let same : c.bound.result ≡ (arc_value c.node-item.result).bound = c.bound.ensures.bound ∙ ap (λ (n : Subproblem). n.bound) c.deref.ensures in
     let fits : SFits w64 c.bound.result = search rules in
     let own : IsLeast ((arc_value c.node-item.result).bound ∷ []) (Some c.bound.result) = rw same (least_of_one (arc_value c.node-item.result).bound) in
-    let both = c.lesser-least.ensures (bounds_of (map arc_value (take c.loop-node.node-index c.args.nodes.now))) ((arc_value c.node-item.result).bound ∷ []) c.loop-node.invariant (simp to_z-of_z own) in
+    let both = c.lesser-least.ensures (bounds_of (map arc_value (take c.loop-node.node-index c.args.nodes.now)))
+    ((arc_value c.node-item.result).bound ∷ []) c.loop-node.invariant (simp to_z-of_z own) in
     rw (items, map-append (λ (n : Subproblem). n.bound) (map arc_value (take c.loop-node.node-index c.args.nodes.now)) (arc_value c.node-item.result ∷ [])) both

@@ -18,7 +18,9 @@ returns-clause-said g c =
         project = p;
         is_project = of_project.0;
         spells = of_project.1 text told;
-        has = starts_whole p c.deref.result.now more (λ starts. IsStartedText p starts c.args.options.json reply.exit reply.text) (c.deref.ensures.value ∙ c.in_ok-starts.ensures.told more (told_more on)) found.0;
+        has = starts_whole p c.deref.result.now more
+            (λ starts. IsStartedText p starts c.args.options.json reply.exit reply.text)
+            (c.deref.ensures.value ∙ c.in_ok-starts.ensures.told more (told_more on)) found.0;
       });
       recorded = (spells_record reply.recorded text p c.args.options.json reply.text of_project.0 (of_project.1 text told) found.1);
     })
@@ -37,7 +39,8 @@ returns-then-not-options-clause-said g c =
         spells = of_project.1 text told;
         has = rw c.in_ok-project-2.ensures.ok at found.said;
       });
-      recorded = (spells_record reply.recorded text p c.args.options.json reply.text of_project.0 (of_project.1 text told) (rw c.in_ok-project-2.ensures.ok at found.recorded));
+      recorded = (spells_record reply.recorded text p c.args.options.json reply.text of_project.0
+          (of_project.1 text told) (rw c.in_ok-project-2.ensures.ok at found.recorded));
     })
     (λ _ _. tt)
 
@@ -59,6 +62,7 @@ returns-clause-refused g c =
         project = p;
         is_project = of_project.0;
         spells = of_project.1 text told;
-        has = λ _. starts_whole p c.deref.result.now more (IsFeasible p) (c.deref.ensures.value ∙ c.in_ok-starts.ensures.told more (told_more on)) (found.1 bad);
+        has = λ _. starts_whole p c.deref.result.now more (IsFeasible p)
+            (c.deref.ensures.value ∙ c.in_ok-starts.ensures.told more (told_more on)) (found.1 bad);
       };
     })

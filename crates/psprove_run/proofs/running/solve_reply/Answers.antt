@@ -14,11 +14,15 @@ returns-clause-said g c =
     let of_project = c.in_ok-project.ensures.project in
     let on : c.args.asked.start ≡ true = search rules in
     MatchResult-weaker c.solved_from.result c.solved_from.ensures.said
-    (λ reply found text more told told_more. replies_started c.args.asked.start c.args.asked.json (continued c.solved_from.new.recorder.taken reply) text more on (record {
+    (λ reply found text more told told_more.
+    replies_started c.args.asked.start c.args.asked.json (continued c.solved_from.new.recorder.taken reply) text
+    more on (record {
       project = p;
       is_project = of_project.0;
       spells = of_project.1 text told;
-      has = starts_whole p c.deref.result.now more (IsStartedReply p c.args.asked.json (continued c.solved_from.new.recorder.taken reply)) (c.deref.ensures.value ∙ c.in_ok-starts.ensures.told more (told_more on)) found;
+      has = starts_whole p c.deref.result.now more
+          (IsStartedReply p c.args.asked.json (continued c.solved_from.new.recorder.taken reply))
+          (c.deref.ensures.value ∙ c.in_ok-starts.ensures.told more (told_more on)) found;
     }))
     (λ _ _. tt)
 
@@ -39,7 +43,8 @@ returns-clause-refused g c =
         project = p;
         is_project = of_project.0;
         spells = of_project.1 text told;
-        has = λ _. starts_whole p c.deref.result.now more (IsFeasible p) (c.deref.ensures.value ∙ c.in_ok-starts.ensures.told more (told_more on)) (found.1 bad);
+        has = λ _. starts_whole p c.deref.result.now more (IsFeasible p)
+            (c.deref.ensures.value ∙ c.in_ok-starts.ensures.told more (told_more on)) (found.1 bad);
       };
     })
 
@@ -50,7 +55,9 @@ returns-then-not-asked-clause-said g c =
     let off : c.args.asked.start ≡ false = search rules in
     let shown = rw c.in_ok-project-2.ensures.ok at c.solved.ensures.shown in
     MatchResult-weaker c.solved.result shown
-    (λ reply found text more told told_more. replies_alone c.args.asked.start c.args.asked.json (continued c.solved.new.recorder.taken reply) text more off (record {
+    (λ reply found text more told told_more.
+    replies_alone c.args.asked.start c.args.asked.json (continued c.solved.new.recorder.taken reply) text more off
+    (record {
       project = p;
       is_project = of_project.0;
       spells = of_project.1 text told;
@@ -62,7 +69,9 @@ pub returns-then-not-asked-clause-read : goal.returns-then-not-asked-clause-read
 returns-then-not-asked-clause-read g c =
     let alone : c.args.asked.start ≡ false = search rules in
     let never : ¬ (c.read_project.result ≡ Err faults.ReadFailed) = search rules in
-    reads_alone c.args.asked.start _ _ alone c.read_project.ensures.within (c.read_project.ensures.failed.elsewhere never) refl refl refl (no_failed_read c.solved.result c.solved.ensures.fault)
+    reads_alone c.args.asked.start _ _ alone c.read_project.ensures.within
+    (c.read_project.ensures.failed.elsewhere never) refl refl refl
+    (no_failed_read c.solved.result c.solved.ensures.fault)
 
 pub returns-in_err-project-2-clause-read : goal.returns-in_err-project-2-clause-read
 returns-in_err-project-2-clause-read g c =

@@ -17,7 +17,8 @@ returns-clause-shown g c =
         seconds = found.seconds;
       };
       text = taken ++ end;
-      is_shown = shown_by (arc_value c.args.project.now) c.in_ok-outcome.outcome (taken ++ end) found.shown.proved c.in_ok-outcome.ensures.claims c.in_ok-outcome.ensures.true_of c.requires;
+      is_shown = shown_by (arc_value c.args.project.now) c.in_ok-outcome.outcome (taken ++ end) found.shown.proved
+          c.in_ok-outcome.ensures.claims c.in_ok-outcome.ensures.true_of c.requires.proof;
       said = rw (c.new.ensures.exit, c.new.ensures.text) c.in_ok-answer.ensures;
       recorded = rw c.new.ensures.recorded refl;
       bytes = omega (arith, c.bytes.ensures, c.len.ensures, c.saturating_add.ensures, length-append taken end);

@@ -4,7 +4,8 @@ use Rattle.record_text.proofs.RowReads.{left_size}
 use Rattle.record_text.proofs.fields.numbers.Given as goal
 
 abbrev pub invariant-loop-left : goal.invariant-loop-left
-invariant-loop-left l = numbers (fields_left (option_map (λ rest. rest.now) l.rest)) ≡ option_map (λ (ns : List ℕ). l.found.items ++ ns) (numbers (fields_left (option_map (λ rest. rest.now) l.left)))
+invariant-loop-left l = numbers (fields_left (option_map (λ rest. rest.now) l.rest)) ≡ option_map
+    (λ (ns : List ℕ). l.found.items ++ ns) (numbers (fields_left (option_map (λ rest. rest.now) l.left)))
 
 abbrev pub decreases-loop-left : goal.decreases-loop-left
 decreases-loop-left l = left_size (option_map (λ rest. rest.now) l.left)

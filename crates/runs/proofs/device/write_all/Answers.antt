@@ -8,6 +8,7 @@ loop-start-preserved g c =
     let told = rw c.split_at.ensures.back at c.in_ok-start.ensures.told in
     record {
       within = search rules;
-      taken = taken_more (held c.args.output.now) (held c.loop-start.output) (held c.push.new.self) c.args.bytes.now c.loop-start.start c.in_ok-start.field-0 c.loop-start.invariant.taken told;
+      taken = taken_more (held c.args.output.now) (held c.loop-start.output) (held c.push.new.self) c.args.bytes.now
+          c.loop-start.start c.in_ok-start.field-0 c.loop-start.invariant.taken told;
       count = search rules;
     }

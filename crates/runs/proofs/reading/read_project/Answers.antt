@@ -13,4 +13,5 @@ returns-clause-project g c =
 pub returns-clause-refused : goal.returns-clause-refused
 returns-clause-refused g c =
     MatchResult-weaker c.project_of.result c.project_of.ensures.refused (λ _ _. tt)
-    (λ fault refused other bytes told. fault_whole c.deref.result.now bytes fault (c.deref.ensures.value ∙ c.in_ok-text.ensures.told bytes told) (refused (λ is. other (ap exit_of is))))
+    (λ fault refused other bytes told. fault_whole c.deref.result.now bytes fault
+    (c.deref.ensures.value ∙ c.in_ok-text.ensures.told bytes told) (refused (λ is. other (ap exit_of is))))

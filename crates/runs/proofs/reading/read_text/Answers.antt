@@ -1,27 +1,14 @@
-use Rattle.std.proofs.Common.{◌≡◌, ◌+◌, ◌<◌, ◌≤◌, ◌++◌, take, length, arith, length-take, length-append}
-use Rattle.std.proofs.KnownBytes.{Consumes-trans}
-use Rattle.runs.proofs.TextLaws.{whole_to_limit, whole_to_end}
+use Rattle.std.proofs.Common.{◌+◌, subst, List, ℕ}
+use Rattle.std.proofs.lemmas.Result.{MatchResult-weaker}
+use Rattle.words.specs.declared.TheConstants.{MAX_TEXT_BYTES}
+use Rattle.runs.specs.Runs.{ReadsOn}
+use Rattle.runs.proofs.TextLaws.{reads_whole}
 use Rattle.runs.proofs.reading.read_text.Goals as goal
-use Rattle.runs.proofs.reading.read_text.Goals.{else-loop-buffer-test, then-loop-buffer-test+in-Ok+then-n-eq0}
-
-pub returns-in_err-extend_from_slice-clause-within : goal.returns-in_err-extend_from_slice-clause-within
-returns-in_err-extend_from_slice-clause-within g c =
-    let left = g.I.Input.left in
-    let piece = take c.in-Ok.n c.pull.new.buffer in
-    let bound : c.in-Ok.n ≤ length c.pull.new.buffer = c.in-Ok.ensures.bound.0 in
-    record {
-      front = c.loop-buffer.text.items ++ piece;
-      given = Consumes-trans (left c.args.input.now) (left c.loop-buffer.input) (left c.pull.new.self) c.loop-buffer.text.items piece c.loop-buffer.invariant.given c.in-Ok.ensures.told.0;
-      within = simp length-append (omega (arith, c.in-Ok.ensures.bound.1, bound, c.pull.auto.buffer, length-take c.min-room.result c.loop-buffer.buffer));
-    }
 
 pub returns-clause-told : goal.returns-clause-told
-returns-clause-told g c = λ bytes e.
+returns-clause-told g c =
     let left = g.I.Input.left in
-    elim c.loop-buffer-test.branch [
-      | else-loop-buffer-test w ↦ whole_to_limit (left c.args.input.now) (left c.loop-buffer.input) c.loop-buffer.text.items bytes (c.args.most + 1) c.loop-buffer.invariant.given e (omega arith)
-      | then-loop-buffer-test+in-Ok+then-n-eq0 w ↦
-          let none : w.in-Ok.n ≡ 0 = w.if-n-eq0.true in
-          let room : 0 < length w.pull.new.buffer = omega (arith, w.pull.auto.buffer, length-take w.min-room.result c.loop-buffer.buffer) in
-          whole_to_end (left c.args.input.now) (left c.loop-buffer.input) (left w.pull.new.self) c.loop-buffer.text.items bytes (c.args.most + 1) c.loop-buffer.invariant.given (rw none at w.in-Ok.ensures.told.0) (w.in-Ok.ensures.told.1 none room) e (omega arith)
-    ]
+    MatchResult-weaker c.read_on.result c.read_on.ensures.more
+    (λ text read bytes told. reads_whole (MAX_TEXT_BYTES + 1) (left c.args.input.now) (left c.read_on.new.input) text.items bytes
+    (subst (λ (none : List ℕ). ReadsOn (MAX_TEXT_BYTES + 1) none (left c.args.input.now) text.items (left c.read_on.new.input)) c.new.ensures.items read) told)
+    (λ _ _. tt)

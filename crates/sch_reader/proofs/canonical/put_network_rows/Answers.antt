@@ -23,9 +23,12 @@ loop-activity-preserved c =
     let activity = c.loop-activity.activity in
     let rest = c.loop-activity.rest.now in
     let left = c.loop-activity.invariant.left in
-    let own : c.split_at.result.0.now ≡ lags_from activity project.lags = c.split_at.ensures.front ∙ ap (λ k. take k rest) c.count_from-count.ensures ∙ own_arcs activity rest project.lags left in
+    let own : c.split_at.result.0.now ≡ lags_from activity project.lags = c.split_at.ensures.front
+    ∙ ap (λ k. take k rest) c.count_from-count.ensures ∙ own_arcs activity rest project.lags left in
     let row = ap (λ (lags : List Lag). string_bytes c.loop-activity.out ++ line (arcs_row activity lags)) own in
     record {
-      written = row_more (string_bytes c.args.out.now) (string_bytes c.loop-activity.out) (string_bytes c.put_arcs_row.new.out) (network_row project) activity c.loop-activity.invariant.written (c.in_ok-put_arcs_row.ensures ∙ row);
+      written = row_more (string_bytes c.args.out.now) (string_bytes c.loop-activity.out)
+          (string_bytes c.put_arcs_row.new.out) (network_row project) activity c.loop-activity.invariant.written
+          (c.in_ok-put_arcs_row.ensures ∙ row);
       left = rw (c.split_at.ensures.back, c.count_from-count.ensures) (later_arcs activity rest project.lags left);
     }

@@ -10,6 +10,8 @@ loop-activity-preserved c =
     let time = c.duration-duration.result in
     let fits : SFits w64 time = search rules in
     let kept : to_z w64 (of_z w64 time) ≡ time = to_z-of_z fits in
-    let row : amounts_row activity (to_z w64 (of_z w64 time)) c.demands.result.now ≡ request_row project activity = rw (kept, c.duration-duration.ensures.value, c.demands.ensures.value) refl in
-    row_more (string_bytes c.args.out.now) (string_bytes c.loop-activity.out) (string_bytes c.put_amounts_row.new.out) (request_row project) activity c.loop-activity.invariant
+    let row : amounts_row activity (to_z w64 (of_z w64 time)) c.demands.result.now ≡ request_row project activity =
+    rw (kept, c.duration-duration.ensures.value, c.demands.ensures.value) refl in
+    row_more (string_bytes c.args.out.now) (string_bytes c.loop-activity.out) (string_bytes c.put_amounts_row.new.out)
+    (request_row project) activity c.loop-activity.invariant
     (c.in_ok-put_amounts_row.ensures ∙ ap (λ (words : List (List ℕ)). string_bytes c.loop-activity.out ++ line words) row)

@@ -11,4 +11,12 @@ returns-in_err-ends c =
     let p = err_from_is_err_and c.from_residual-in_err-ends.result c.from_residual-in_err-ends.ensures.1 in
     let fits : SFits w64 c.in_ok-count.count = search rules in
     let n : c.unsigned_abs-count.result ≡ nat_abs c.in_ok-count.count = simp to_z-of_z at c.unsigned_abs-count.ensures.value in
-    rw (p.1, p.2) (λ h. let m = c.in_err-ends.ensures h in rw (c.in_ok-number.ensures.reads, c.in_ok-number-2.ensures.reads, c.in_ok-count.ensures.reads, reading_bind, ← n, m) refl)
+    rw (p.1, p.2) (λ h. let m = c.in_err-ends.ensures h
+    in rw (
+      c.in_ok-number.ensures.reads,
+      c.in_ok-number-2.ensures.reads,
+      c.in_ok-count.ensures.reads,
+      reading_bind,
+      ← n,
+      m,
+    ) refl)

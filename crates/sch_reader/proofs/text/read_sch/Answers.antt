@@ -26,7 +26,8 @@ returns-in_err-parts-clause-unique c = spelled_once c.args.text.now
 pub unwrap-project-requires : goal.unwrap-project-requires
 unwrap-project-requires c =
     let parts = c.in_ok-parts.parts in
-    is_made c.new.result (problem_of parts) c.new.ensures.refused (read_is_spelled c.args.text.now (problem_of parts) c.if-text-gt-MAX_TEXT_BYTES.false c.in_ok-parts.ensures).0
+    is_made c.new.result (problem_of parts) c.new.ensures.refused
+    (read_is_spelled c.args.text.now (problem_of parts) c.if-text-gt-MAX_TEXT_BYTES.false c.in_ok-parts.ensures).0
 
 pub returns-clause-found : goal.returns-clause-found
 returns-clause-found c =

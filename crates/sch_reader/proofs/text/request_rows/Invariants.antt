@@ -5,4 +5,6 @@ use Rattle.sch_reader.proofs.Readings.{requests_so_far}
 use Rattle.sch_reader.proofs.text.request_rows.Given as goal
 
 abbrev pub invariant-loop-id : goal.invariant-loop-id
-invariant-loop-id l = requests_so_far (requests_of (l.durations, l.demands)) (l.activities + 2 - l.id) (l.activities + 1) l.resources l.id l.reader ≡ reading (request_rows (l.activities + 2) (l.activities + 1) l.resources 0) l.fn.reader
+invariant-loop-id l = requests_so_far (requests_of (l.durations, l.demands)) (l.activities + 2 - l.id)
+    (l.activities + 1) l.resources l.id l.reader ≡ reading
+    (request_rows (l.activities + 2) (l.activities + 1) l.resources 0) l.fn.reader

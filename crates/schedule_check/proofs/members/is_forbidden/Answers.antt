@@ -13,5 +13,6 @@ returns-then-total-capacity c =
     let all = sum_by-take-le f c.args.members.now (i + 1) in
     let here : c.demand-total.result ≡ f (get_or c.args.members.now i 0) = c.demand-total.ensures.value in
     let there : c.capacity-capacity.result ≡ capacity c.args.project.now c.args.resource = c.capacity-capacity.ensures.value in
-    let over : capacity c.args.project.now c.args.resource < sum_by f c.args.members.now = omega (arith, more, all, here, there, c.if-total-capacity.true, c.loop-member.invariant.so_far) in
+    let over : capacity c.args.project.now c.args.resource < sum_by f c.args.members.now =
+    omega (arith, more, all, here, there, c.if-total-capacity.true, c.loop-member.invariant.so_far) in
     (λ yes. over, λ forbidden. refl)

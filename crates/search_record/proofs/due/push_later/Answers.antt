@@ -13,8 +13,11 @@ loop-pair-preserved c =
     let pushed = pushed_later c.args.depth c.pop.new.self.items c.in-Some.pair c.loop-pair.later.items c.push.new.self.items c.in_ok-push.ensures.items in
     record {
       added = pushed ∙ (rw popped at c.loop-pair.invariant.added);
-      named = λ p named. all_left (λ (q : Pair). (q.before < activity_count p) × (q.after < activity_count p)) c.pop.new.self.items (c.in-Some.pair ∷ []) (rw popped at c.loop-pair.invariant.named p named);
+      named = λ p named. all_left (λ (q : Pair). (q.before < activity_count p) × (q.after < activity_count p))
+          c.pop.new.self.items (c.in-Some.pair ∷ []) (rw popped at c.loop-pair.invariant.named p named);
       nested = λ p named nested.
-          let last = all_right (λ (q : Pair). (q.before < activity_count p) × (q.after < activity_count p)) c.pop.new.self.items (c.in-Some.pair ∷ []) (rw popped at c.loop-pair.invariant.named p named) in
-          pushed_nested p c.args.depth c.in-Some.pair c.loop-pair.later.items c.push.new.self.items c.in_ok-push.ensures.items last (c.loop-pair.invariant.nested p named nested);
+          let last = all_right (λ (q : Pair). (q.before < activity_count p) × (q.after < activity_count p))
+          c.pop.new.self.items (c.in-Some.pair ∷ []) (rw popped at c.loop-pair.invariant.named p named) in
+          pushed_nested p c.args.depth c.in-Some.pair c.loop-pair.later.items c.push.new.self.items
+          c.in_ok-push.ensures.items last (c.loop-pair.invariant.nested p named nested);
     }

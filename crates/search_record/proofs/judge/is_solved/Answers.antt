@@ -16,7 +16,9 @@ first_overload-requires c =
 pub returns-in-Some : goal.returns-in-Some
 returns-in-Some c = λ pairs m.
     let early = c.in_ok-starts.ensures.earliest c.args.project.now pairs m in
-    let found : IsFirstOverload c.args.project.now c.in_ok-starts.starts.items c.in-Some.field-0.0.time c.in-Some.field-0.0.resource = rw c.as_slice.ensures.value at (rw c.in-Some.is at c.in_ok-found.ensures.first) in
+    let found : IsFirstOverload c.args.project.now c.in_ok-starts.starts.items c.in-Some.field-0.0.time
+    c.in-Some.field-0.0.resource = rw c.as_slice.ensures.value at (rw c.in-Some.is at c.in_ok-found.ensures.first)
+    in
     refused (IsSolved c.args.project.now pairs c.args.limit)
     (not_solved c.args.project.now pairs c.in_ok-starts.starts.items c.args.limit c.in-Some.field-0.0.time c.in-Some.field-0.0.resource early.least found)
 
@@ -29,12 +31,14 @@ index-requires c =
 pub returns : goal.returns
 returns c = λ pairs m.
     let early = c.in_ok-starts.ensures.earliest c.args.project.now pairs m in
-    let within : IsWithinCapacities c.args.project.now c.in_ok-starts.starts.items = rw c.as_slice.ensures.value at (rw c.in-None.is at c.in_ok-found.ensures.none) in
+    let within : IsWithinCapacities c.args.project.now c.in_ok-starts.starts.items =
+    rw c.as_slice.ensures.value at (rw c.in-None.is at c.in_ok-found.ensures.none) in
     let end : c.activity_count-end.result - 1 ≡ length c.in_ok-starts.starts.items - 1 = omega (arith, c.activity_count-end.ensures.value) in
     let two : 2 ≤ activity_count c.args.project.now = c.activity_count-end.ensures.limits.two_dummies in
     let lt : c.activity_count-end.result - 1 < length c.in_ok-starts.starts.items = omega (arith, c.activity_count-end.ensures.value) in
     let value : c.index.result.now ≡ makespan c.in_ok-starts.starts.items =
-    get_or_read c.in_ok-starts.starts.items (c.activity_count-end.result - 1) c.index.result.now lt c.index.ensures (pos 0) ∙ ap (λ (n : ℕ). start c.in_ok-starts.starts.items n) end in
+    get_or_read c.in_ok-starts.starts.items (c.activity_count-end.result - 1) c.index.result.now lt c.index.ensures
+    (pos 0) ∙ ap (λ (n : ℕ). start c.in_ok-starts.starts.items n) end in
     let limit_fits : SFits w64 c.args.limit = search rules in
     let value_fits : SFits w64 c.index.result.now = search rules in
     simp to_z-of_z (rw value (solved_by c.args.project.now pairs c.args.matrix.now c.in_ok-starts.starts.items c.args.limit m early.least within))

@@ -10,9 +10,13 @@ bounds-lines-0 c = tree_some c.args.lines.now c.requires.0 c.requires.1
 
 pub returns-then-is_infeasible-clause-right : goal.returns-then-is_infeasible-clause-right
 returns-then-is_infeasible-clause-right c = λ p limit died.
-    dead_right p limit c.args.lines.now c.index-lines-0.result c.requires.0 c.requires.1 c.index-lines-0.is (c.is_infeasible.ensures.0 c.if-is_infeasible.true) died
+    dead_right p limit c.args.lines.now c.index-lines-0.result c.requires.0 c.requires.1 c.index-lines-0.is
+    (c.is_infeasible.ensures.0 c.if-is_infeasible.true) died
 
 pub returns-clause-fault : goal.returns-clause-fault
 returns-clause-fault c = λ p limit died.
-    let why : fault_at c.args.first c.why_wrong.result ≡ fault_at c.args.first (why_wrong c.index-lines-0.result) = ap (fault_at c.args.first) c.why_wrong.ensures in
-    dead_wrong p limit c.args.first c.args.lines.now c.index-lines-0.result c.requires.0 (fault_at c.args.first c.why_wrong.result) c.requires.1 c.index-lines-0.is (iff_false c.is_infeasible.ensures c.if-is_infeasible.false) died why
+    let why : fault_at c.args.first c.why_wrong.result ≡ fault_at c.args.first (why_wrong c.index-lines-0.result) =
+    ap (fault_at c.args.first) c.why_wrong.ensures in
+    dead_wrong p limit c.args.first c.args.lines.now c.index-lines-0.result c.requires.0
+    (fault_at c.args.first c.why_wrong.result) c.requires.1 c.index-lines-0.is
+    (iff_false c.is_infeasible.ensures c.if-is_infeasible.false) died why

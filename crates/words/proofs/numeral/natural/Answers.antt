@@ -13,7 +13,8 @@ result_is : (c : goal.After-ok) → (c.ok.result ≡ natural c.args.most c.args.
 result_is c =
     let digits : AreDigits c.args.word.now = search rules in
     let some : 0 < length c.args.word.now = search rules in
-    rw c.ok.ensures.value (parsed c.args.most c.args.word.now c.in-Ok.digits.now c.parse.result c.requires c.in-Ok.ensures.cases.0 digits some (omega (arith, c.if-word-most.false)) c.parse.ensures.value.0)
+    rw c.ok.ensures.value (parsed c.args.most c.args.word.now c.in-Ok.digits.now c.parse.result c.requires
+    c.in-Ok.ensures.cases.0 digits some (omega (arith, c.if-word-most.false)) c.parse.ensures.value.0)
 
 pub returns-clause-value : goal.returns-clause-value
 returns-clause-value c = (result_is c).0

@@ -11,11 +11,13 @@ returns-in_err-start-clause-words c =
 pub returns-clause-words : goal.returns-clause-words
 unfolding words
 returns-clause-words c =
-    let found = words-Some (is_in c.args.separators.now) c.args.text.now c.in_ok-start.start c.first_separator.result (sym c.in_ok-start.ensures) (rw c.split_at.ensures.back at (sym c.first_separator.ensures)) in
+    let found = words-Some (is_in c.args.separators.now) c.args.text.now c.in_ok-start.start c.first_separator.result
+    (sym c.in_ok-start.ensures) (rw c.split_at.ensures.back at (sym c.first_separator.ensures)) in
     rw (c.split_at-2.ensures.front, c.split_at-2.ensures.back, c.unwrap_or-end.ensures, c.split_at.ensures.back) found.0
 
 pub returns-clause-shorter : goal.returns-clause-shorter
 returns-clause-shorter c =
-    let found = words-Some (is_in c.args.separators.now) c.args.text.now c.in_ok-start.start c.first_separator.result (sym c.in_ok-start.ensures) (rw c.split_at.ensures.back at (sym c.first_separator.ensures)) in
+    let found = words-Some (is_in c.args.separators.now) c.args.text.now c.in_ok-start.start c.first_separator.result
+    (sym c.in_ok-start.ensures) (rw c.split_at.ensures.back at (sym c.first_separator.ensures)) in
     let some = rw (← c.split_at.ensures.back) at found.1 in
     omega (arith, rw (← c.unwrap_or-end.ensures) at some, c.split_at.ensures.back_len, c.split_at-2.ensures.back_len)

@@ -1,4 +1,5 @@
-use Rattle.std.proofs.Common.{◌≡◌, ◌<◌, ◌≤ℤ◌, ◌+◌, ℕ, zero, suc, ℤ, List, [], ◌∷◌, Option, None, Some, refl, sym, ap, ◌∙◌, subst, inl, inr, length, arith, rules, IfSome, option_map}
+use Rattle.std.proofs.Common.{◌≡◌, ◌<◌, ◌≤ℤ◌, ◌+◌, ℕ, zero, suc, ℤ, List, [], ◌∷◌, Option, None, Some, refl, sym, ap}
+use Rattle.std.proofs.Common.{◌∙◌, subst, inl, inr, length, arith, rules, IfSome, option_map}
 use Rattle.std.specs.List.{All, Any, Contains}
 use Rattle.std.proofs.lemmas.Int.{ints}
 use Rattle.std.proofs.lemmas.List.Elements.{All-nil, All-cons, All-head, All-tail}
@@ -13,7 +14,8 @@ use Rattle.book.proofs.Steps.{kept_cut}
 use Rattle.book.proofs.book.Book.cut_settled.Goals as goal
 
 -- where the least bound is below the limit, some node's is
-some_under : (limit : Option ℤ) (bound : ℤ) (nodes : List Named) → Contains (bounds_of nodes) bound → IsUnder limit bound → Any (λ (n : Named). IsUnder limit n.node.bound) nodes
+some_under : (limit : Option ℤ) (bound : ℤ) (nodes : List Named) → Contains (bounds_of nodes) bound
+    → IsUnder limit bound → Any (λ (n : Named). IsUnder limit n.node.bound) nodes
 some_under limit bound [] (k, l, e) under = absurd (omega arith)
 some_under limit bound (n ∷ ns) (zero, l, e) under = (0, n, omega arith, refl, subst (IsUnder limit) (sym e) under)
 some_under limit bound (n ∷ ns) (suc k, l, e) under =
@@ -25,10 +27,12 @@ reaches_more None bound more reaches le = reaches
 reaches_more (Some limit) bound more reaches le = omega (arith, ints)
 
 -- where the least bound reaches the limit, each does
-all_reach : (limit : Option ℤ) (bound : ℤ) (nodes : List Named) → All (λ n. bound ≤ℤ n) (bounds_of nodes) → Reaches limit bound → All (λ (n : Named). Reaches limit n.node.bound) nodes
+all_reach : (limit : Option ℤ) (bound : ℤ) (nodes : List Named) → All (λ n. bound ≤ℤ n) (bounds_of nodes)
+    → Reaches limit bound → All (λ (n : Named). Reaches limit n.node.bound) nodes
 all_reach limit bound [] all reaches = All-nil (λ (n : Named). Reaches limit n.node.bound)
 all_reach limit bound (n ∷ ns) all reaches =
-    All-cons (λ (n : Named). Reaches limit n.node.bound) n ns (reaches_more limit bound n.node.bound reaches (All-head (λ n. bound ≤ℤ n) n.node.bound (bounds_of ns) all))
+    All-cons (λ (n : Named). Reaches limit n.node.bound) n ns
+    (reaches_more limit bound n.node.bound reaches (All-head (λ n. bound ≤ℤ n) n.node.bound (bounds_of ns) all))
     (all_reach limit bound ns (All-tail (λ n. bound ≤ℤ n) n.node.bound (bounds_of ns) all) reaches)
 
 some_node : (nodes : List Named) (bound : ℤ) → Contains (bounds_of nodes) bound → 0 < length nodes
@@ -36,7 +40,9 @@ some_node [] bound (k, l, e) = absurd (omega arith)
 some_node (n ∷ ns) bound among = omega arith
 
 -- what is left
-same_cut : (s : BookState) (waiting : List Named) (count : ℕ) (trail : Option (List Entry)) → waiting ≡ [] → count ≡ length s.waiting → trail ≡ option_map (note_cut s.waiting) s.trail → ◌≡◌ {A = BookState} (record s { waiting = waiting; cut = s.cut + count; trail = trail }) (cut_state s)
+same_cut : (s : BookState) (waiting : List Named) (count : ℕ) (trail : Option (List Entry)) → waiting ≡ []
+    → count ≡ length s.waiting → trail ≡ option_map (note_cut s.waiting) s.trail
+    → ◌≡◌ {A = BookState} (record s { waiting = waiting; cut = s.cut + count; trail = trail }) (cut_state s)
 same_cut s waiting count trail e f g = λ i. record s { waiting = e i; cut = s.cut + f i; trail = g i }
 
 pub returns-then-is_below : goal.returns-then-is_below
@@ -51,9 +57,16 @@ invariant_of-self c =
     let least : IsLeast (bounds_of c.self.inside.waiting) (Some c.in-Some.bound) = search rules in
     let reaches : Reaches (best_makespan (state_of c.self.inside)) c.in-Some.bound = search rules in
     let count : c.len.result ≡ length c.self.inside.waiting = search rules in
-    let cut : entries_in c.clear_open.new.trail ≡ option_map (note_cut s.waiting) s.trail = ap entries_in c.clear_open.ensures.trail ∙ entries_changed c.self.inside.trail (note_cut s.waiting) in
-    let project = subst (λ (t : Option TrailOf). IfSome t (λ (t : TrailOf). t.project ≡ arc_value c.self.inside.project)) (sym c.clear_open.ensures.trail) (project_kept (arc_value c.self.inside.project) c.self.inside.trail (note_cut s.waiting) c.self.invariant.of_trail) in
-    let kept = subst IsKept (sym (same_cut s c.clear_open.new.nodes c.len.result (entries_in c.clear_open.new.trail) c.clear_open.ensures.nodes count cut)) (kept_cut s (all_reach (best_makespan s) c.in-Some.bound c.self.inside.waiting least.1 reaches) c.self.invariant.kept) in
+    let cut : entries_in c.clear_open.new.trail ≡ option_map (note_cut s.waiting) s.trail =
+    ap entries_in c.clear_open.ensures.trail ∙ entries_changed c.self.inside.trail (note_cut s.waiting) in
+    let project = subst (λ (t : Option TrailOf).
+    IfSome t (λ (t : TrailOf). t.project ≡ arc_value c.self.inside.project)) (sym c.clear_open.ensures.trail)
+    (project_kept (arc_value c.self.inside.project) c.self.inside.trail (note_cut s.waiting)
+    c.self.invariant.of_trail) in
+    let kept = subst IsKept (sym (same_cut s c.clear_open.new.nodes c.len.result (entries_in c.clear_open.new.trail)
+    c.clear_open.ensures.nodes count cut))
+    (kept_cut s (all_reach (best_makespan s) c.in-Some.bound c.self.inside.waiting least.1 reaches)
+    c.self.invariant.kept) in
     record { kept = kept; of_trail = project }
 
 pub returns : goal.returns
@@ -62,6 +75,14 @@ returns c =
     let least : IsLeast (bounds_of c.self.inside.waiting) (Some c.in-Some.bound) = search rules in
     let reaches : Reaches (best_makespan (state_of c.self.inside)) c.in-Some.bound = search rules in
     let count : c.len.result ≡ length c.self.inside.waiting = search rules in
-    let cut : entries_in c.clear_open.new.trail ≡ option_map (note_cut s.waiting) s.trail = ap entries_in c.clear_open.ensures.trail ∙ entries_changed c.self.inside.trail (note_cut s.waiting) in
+    let cut : entries_in c.clear_open.new.trail ≡ option_map (note_cut s.waiting) s.trail =
+    ap entries_in c.clear_open.ensures.trail ∙ entries_changed c.self.inside.trail (note_cut s.waiting) in
     rw (← c.self.view_is)
-    (inl ((some_node c.self.inside.waiting c.in-Some.bound least.0, all_reach (best_makespan s) c.in-Some.bound c.self.inside.waiting least.1 reaches), same_cut s c.clear_open.new.nodes c.len.result (entries_in c.clear_open.new.trail) c.clear_open.ensures.nodes count cut))
+    (inl (
+      (
+        some_node c.self.inside.waiting c.in-Some.bound least.0,
+        all_reach (best_makespan s) c.in-Some.bound c.self.inside.waiting least.1 reaches,
+      ),
+      same_cut s c.clear_open.new.nodes c.len.result (entries_in c.clear_open.new.trail) c.clear_open.ensures.nodes
+          count cut,
+    ))

@@ -13,7 +13,9 @@ use Rattle.book.proofs.book.Book.give_back.Goals as goal
 abbrev left : BookState → List Named → List (Option Named) → BookState
 left s waiting hands = record s { waiting = waiting; hands = hands }
 
-returned : (s : BookState) (worker : ℕ) (held : Named) (waiting : List Named) (hands : List (Option Named)) → slice_get s.hands worker ≡ Some (Some held) → Inserts held.name held.node s.waiting waiting → hands ≡ set s.hands worker None → ReturnsNode s worker held.name (left s waiting hands)
+returned : (s : BookState) (worker : ℕ) (held : Named) (waiting : List Named) (hands : List (Option Named))
+    → slice_get s.hands worker ≡ Some (Some held) → Inserts held.name held.node s.waiting waiting
+    → hands ≡ set s.hands worker None → ReturnsNode s worker held.name (left s waiting hands)
 returned s worker held waiting hands holds goes_in emptied = record {
   held = held;
   holds = holds;
@@ -33,7 +35,11 @@ returns-then-is_err-clause-step c =
     let held : Named = record { name = c.args.name; node = arc_value c.in_ok-worker.node.now } in
     let holds : slice_get c.self.inside.hands c.in_ok-worker.worker ≡ Some (Some held) = search rules in
     let same : c.insert.new.self ≡ c.self.inside.waiting = search rules in
-    rw (← c.self.view_is) ((held, record { worker = c.in_ok-worker.worker; holds = holds; named = refl }), λ i. record (state_of c.self.inside) { waiting = same i })
+    rw (← c.self.view_is) (
+      (held, record { worker = c.in_ok-worker.worker; holds = holds; named = refl }),
+      λ i.
+          record (state_of c.self.inside) { waiting = same i },
+    )
 
 pub empty-requires : goal.empty-requires
 empty-requires c =
@@ -46,7 +52,10 @@ invariant_of-self-2 c =
     let held : Named = record { name = c.args.name; node = arc_value c.in_ok-worker.node.now } in
     let holds : slice_get c.self.inside.hands c.in_ok-worker.worker ≡ Some (Some held) = search rules in
     let goes_in : Inserts c.args.name (arc_value c.in_ok-worker.node.now) c.self.inside.waiting c.insert.new.self = search rules in
-    let kept = kept_returned (state_of c.self.inside) c.in_ok-worker.worker c.args.name (left (state_of c.self.inside) c.insert.new.self c.empty.new.self) (returned (state_of c.self.inside) c.in_ok-worker.worker held c.insert.new.self c.empty.new.self holds goes_in c.empty.ensures) c.self.invariant.kept in
+    let kept = kept_returned (state_of c.self.inside) c.in_ok-worker.worker c.args.name
+    (left (state_of c.self.inside) c.insert.new.self c.empty.new.self)
+    (returned (state_of c.self.inside) c.in_ok-worker.worker held c.insert.new.self c.empty.new.self holds goes_in
+    c.empty.ensures) c.self.invariant.kept in
     record { kept = kept; of_trail = c.self.invariant.of_trail }
 
 pub returns-clause-step : goal.returns-clause-step
@@ -54,7 +63,11 @@ returns-clause-step c =
     let held : Named = record { name = c.args.name; node = arc_value c.in_ok-worker.node.now } in
     let holds : slice_get c.self.inside.hands c.in_ok-worker.worker ≡ Some (Some held) = search rules in
     let goes_in : Inserts c.args.name (arc_value c.in_ok-worker.node.now) c.self.inside.waiting c.insert.new.self = search rules in
-    rw (← c.self.view_is) (c.in_ok-worker.worker, returned (state_of c.self.inside) c.in_ok-worker.worker held c.insert.new.self c.empty.new.self holds goes_in c.empty.ensures)
+    rw (← c.self.view_is) (
+      c.in_ok-worker.worker,
+      returned (state_of c.self.inside) c.in_ok-worker.worker held c.insert.new.self c.empty.new.self holds goes_in
+          c.empty.ensures,
+    )
 
 pub returns-clause-sound : goal.returns-clause-sound
 returns-clause-sound c = (invariant_of-self-2 c).kept.sound

@@ -19,5 +19,6 @@ returns-clause-opens c =
     let roots : c.len-roots.result ≡ length c.book.inside.waiting = search rules in
     let trail : c.in_ok-trail.trail ≡ trail_for (arc_value c.in_ok-project.project) (replicate c.len-roots.result no_entry) = search rules in
     let entries : c.in_ok-trail.trail.entries ≡ first_entries nodes =
-    ap (λ (t : TrailOf). t.entries) trail ∙ ap (λ (n : ℕ). let es : List Entry = replicate n no_entry in es) (roots ∙ ap (λ (s : BookState). length s.waiting) state) in
+    ap (λ (t : TrailOf). t.entries) trail ∙ ap (λ (n : ℕ). let es : List Entry = replicate n no_entry in es)
+    (roots ∙ ap (λ (s : BookState). length s.waiting) state) in
     (opened.0, (nodes, opened.1.1, λ i. record (state i) { trail = Some (entries i) }))

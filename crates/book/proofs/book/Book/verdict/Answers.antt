@@ -6,7 +6,7 @@ use Rattle.book.specs.Views.{state_of}
 pub use Rattle.book.specs.declared.book.Book.TheInside.{Inside}
 use Rattle.book.proofs.Names.{nothing_of_length}
 use Rattle.book.specs.Sound.{IsSound, known_bounds}
-use Rattle.book.specs.declared.answers.Verdict.TheVariants as verdict
+use Rattle.network.specs.declared.verdict.Verdict.TheVariants as verdict
 use Rattle.book.proofs.Verdicts.{nothing_known, bound_is_best, verdict_true}
 use Rattle.book.proofs.book.Book.verdict.Goals as goal
 use Rattle.book.proofs.book.Book.verdict.Goals.{else-len-eq0-via-then-len-eq0+else-count-eq0, else-len-eq0-via-else-len-eq0}
@@ -19,7 +19,8 @@ returns-in_default-clause-verdict c =
 
 -- no node is open or in hand
 none_live : (b : Inside) (s : BookState) → state_of b ≡ s → length b.waiting ≡ 0 → length (in_hand b.hands) ≡ 0 → live s ≡ []
-none_live b s is waiting held = subst (λ (s : BookState). live s ≡ []) is (nothing_of_length (live (state_of b)) (omega (arith, length-append b.waiting (in_hand b.hands), waiting, held)))
+none_live b s is waiting held = subst (λ (s : BookState). live s ≡ []) is
+    (nothing_of_length (live (state_of b)) (omega (arith, length-append b.waiting (in_hand b.hands), waiting, held)))
 
 some_live : (b : Inside) (s : BookState) → state_of b ≡ s → 0 < length b.waiting + length (in_hand b.hands) → 0 < length (live s)
 some_live b s is some = subst (λ (s : BookState). 0 < length (live s)) is (omega (arith, length-append b.waiting (in_hand b.hands), some))
@@ -35,7 +36,8 @@ returns-then-count-eq0-clause-verdict c =
 
 pub returns-then-count-eq0-clause-holds : goal.returns-then-count-eq0-clause-holds
 returns-then-count-eq0-clause-holds c =
-    verdict_true c.args.self.now (verdict.Optimal (to_z w64 (of_z w64 c.in-Some.bound))) (subst IsSound c.self.view_is c.self.invariant.kept.sound) (returns-then-count-eq0-clause-verdict c)
+    verdict_true c.args.self.now (verdict.Optimal (to_z w64 (of_z w64 c.in-Some.bound)))
+    (subst IsSound c.self.view_is c.self.invariant.kept.sound) (returns-then-count-eq0-clause-verdict c)
 
 pub returns-clause-verdict : goal.returns-clause-verdict
 returns-clause-verdict c =
@@ -46,5 +48,4 @@ returns-clause-verdict c =
       | else-len-eq0-via-then-len-eq0+else-count-eq0 w ↦ omega (arith, w.if-count-eq0.false, w.count.ensures)
       | else-len-eq0-via-else-len-eq0 w ↦ omega (arith, w.if-len-eq0.false, c.len.ensures)
     ]) in
-    let best : c.makespan_of-best.result ≡ best_makespan c.args.self.now = search rules in
-    (some_live c.self.inside c.args.self.now c.self.view_is some, best, subst (λ (n : ℤ). IsLeast (known_bounds c.args.self.now) (Some n)) (sym same) least)
+    (some_live c.self.inside c.args.self.now c.self.view_is some, subst (λ (n : ℤ). IsLeast (known_bounds c.args.self.now) (Some n)) (sym same) least)

@@ -16,5 +16,7 @@ loop-worker-preserved c =
 pub returns-clause-none : goal.returns-clause-none
 returns-clause-none c =
     let P = λ (held : Named). held.name ≢ c.args.name in
-    let all : All P (in_hand (map hand_of c.deref-hand-items.result.now)) = subst (λ (hs : List (Option Held)). All P (in_hand (map hand_of hs))) (take_all c.loop-worker.worker c.deref-hand-items.result.now (omega arith)) c.loop-worker.invariant in
+    let all : All P (in_hand (map hand_of c.deref-hand-items.result.now)) =
+    subst (λ (hs : List (Option Held)). All P (in_hand (map hand_of hs)))
+    (take_all c.loop-worker.worker c.deref-hand-items.result.now (omega arith)) c.loop-worker.invariant in
     rw (← c.self.view_is) (subst (λ (hs : List (Option Held)). All P (in_hand (map hand_of hs))) c.deref-hand-items.ensures.value all)

@@ -11,7 +11,8 @@ loop-hand-preserved c =
     let items = c.deref-hand-items.result.now in
     let more = in_hand_more items c.loop-hand.hand-index c.hand-item.result (omega arith) c.hand-item.is in
     subst (λ (ns : List ℤ). IsLeast ns c.lesser-least.result)
-    (sym (ap bounds_of more ∙ map-append (λ (n : Named). n.node.bound) (in_hand (map hand_of (take c.loop-hand.hand-index items))) (in_hand (hand_of c.hand-item.result ∷ []))))
+    (sym (ap bounds_of more ∙ map-append (λ (n : Named). n.node.bound)
+    (in_hand (map hand_of (take c.loop-hand.hand-index items))) (in_hand (hand_of c.hand-item.result ∷ []))))
     (c.lesser-least.ensures _ _ c.loop-hand.invariant c.bound_in.ensures)
 
 pub returns : goal.returns

@@ -15,7 +15,9 @@ invariant_of-self-2 c =
     let fits : to_z w64 (of_z w64 c.bound-bound.result) ≡ c.bound-bound.result = omega (arith, ints) in
     let bound : to_z w64 (of_z w64 c.bound-bound.result) ≡ (arc_value c.args.node.now).bound = fits ∙ (search rules) in
     subst (All IsFiled) (sym c.in_ok-insert.ensures.entries)
-    (filed_after c.self.inside.nodes.entries _ _ fresh (record { bound = bound ∙ ap (λ (n : Subproblem). n.bound) (sym owner); twin = twin ∙ sym owner }) c.self.invariant)
+    (filed_after c.self.inside.nodes.entries _ _ fresh
+    (record { bound = bound ∙ ap (λ (n : Subproblem). n.bound) (sym owner); twin = twin ∙ sym owner })
+    c.self.invariant)
 
 pub returns-clause-ok : goal.returns-clause-ok
 returns-clause-ok c =

@@ -8,7 +8,8 @@ use Rattle.book.proofs.Names.{filter_at_most}
 use Rattle.book.proofs.Filing.{ChildrenSoFar, so_far_none, so_far_skipped, so_far_inserted, all_inserted}
 use Rattle.book.proofs.open_nodes.OpenNodes.insert_children.Goals as goal
 
-mapped_more : {X : Type 0} (f : X → Subproblem) (xs : List X) (i : ℕ) (x : X) → i < length xs → x ≡ get_or xs i x → map f (take (i + 1) xs) ≡ map f (take i xs) ++ f x ∷ []
+mapped_more : {X : Type 0} (f : X → Subproblem) (xs : List X) (i : ℕ) (x : X) → i < length xs → x ≡ get_or xs i x
+    → map f (take (i + 1) xs) ≡ map f (take i xs) ++ f x ∷ []
 mapped_more f xs i x l e = ap (map f) (take_more xs i x l) ∙ (map-append f (take i xs) (get_or xs i x ∷ []) ∙ ap (λ y. map f (take i xs) ++ f y ∷ []) (sym e))
 
 length_taken : {X : Type 0} (f : X → Subproblem) (xs : List X) (i : ℕ) → i ≤ length xs → length (map f (take i xs)) ≤ i

@@ -11,4 +11,5 @@ returns c =
     let same : to_z w64 (of_z w64 c.in_ok-rank.rank.now.bound) ≡ c.in_ok-rank.rank.now.bound = omega (arith, ints) in
     rw (← c.self.view_is)
     (subst (λ (b : ℤ). IsLeast (bounds_of (map open_node c.self.inside.nodes.entries)) (Some b)) (sym same)
-    (first_is_least c.self.inside.nodes.entries c.in_ok-rank.rank.now c.in_ok-rank.field-0-1.now c.in_ok-rank.ensures.first c.in_ok-rank.ensures.all_from c.self.invariant))
+    (first_is_least c.self.inside.nodes.entries c.in_ok-rank.rank.now c.in_ok-rank.field-0-1.now
+    c.in_ok-rank.ensures.first c.in_ok-rank.ensures.all_from c.self.invariant))

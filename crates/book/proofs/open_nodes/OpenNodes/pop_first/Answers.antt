@@ -26,7 +26,8 @@ returns-clause-before c =
     let first : Rank × NodeOwners = (c.in_ok-rank.rank, c.in_ok-rank.opened) in
     let others = c.pop_first.new.self.entries in
     let filed = subst (All IsFiled) c.in_ok-rank.ensures.removal c.self.invariant in
-    subst (λ (n : Subproblem). All (GoesBefore (node_named c.in_ok-rank.rank.name.0 n)) (map open_node others)) (sym (ap (λ p. arc_value p.0) c.into_owners-node.ensures))
+    subst (λ (n : Subproblem). All (GoesBefore (node_named c.in_ok-rank.rank.name.0 n)) (map open_node others))
+    (sym (ap (λ p. arc_value p.0) c.into_owners-node.ensures))
     (goes_before_others first others (All-head IsFiled first others filed) c.in_ok-rank.ensures.all_above (All-tail IsFiled first others filed))
 
 pub returns-clause-twin : goal.returns-clause-twin

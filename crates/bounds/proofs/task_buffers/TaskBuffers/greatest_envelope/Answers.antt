@@ -10,13 +10,20 @@ record AreOrdered (heads tails : List ℤ) (tasks : List Task) (rising : List �
   of_tails : AreTailsOf tails tasks rising
   of_loads : AreLoadsOf heads tails rising tasks loads
 
-ordered : (c : After-list_loads) → AreOrdered c.args.heads.now c.args.tails.now c.args.self.now (take c.rank_tails-count.result c.list_loads.new.self.rising.items) c.list_loads.new.self.loads.items
+ordered : (c : After-list_loads) → AreOrdered c.args.heads.now c.args.tails.now c.args.self.now
+    (take c.rank_tails-count.result c.list_loads.new.self.rising.items) c.list_loads.new.self.loads.items
 ordered c =
-    let ranked : AreRanked c.args.tails.now c.args.self.now c.rank_tails-count.new.self.rising.items c.rank_tails-count.new.self.ranks.items c.rank_tails-count.result = rw (c.as_slice.ensures.value, c.self.view_is) at c.rank_tails-count.ensures.ranked in
-    let loads : AreRankedLoads c.args.heads.now c.rank_tails-count.new.self.ranks.items c.args.self.now c.list_loads.new.self.loads.items = rw (c.as_slice-2.ensures.value, c.self.view_is) at c.list_loads.ensures.loads in
+    let ranked : AreRanked c.args.tails.now c.args.self.now c.rank_tails-count.new.self.rising.items
+    c.rank_tails-count.new.self.ranks.items c.rank_tails-count.result =
+    rw (c.as_slice.ensures.value, c.self.view_is) at c.rank_tails-count.ensures.ranked in
+    let loads : AreRankedLoads c.args.heads.now c.rank_tails-count.new.self.ranks.items c.args.self.now
+    c.list_loads.new.self.loads.items = rw (c.as_slice-2.ensures.value, c.self.view_is) at
+    c.list_loads.ensures.loads in
     rw c.list_loads.ensures.rising (record {
       of_tails = ranked.of_tails;
-      of_loads = ranked_loads c.args.heads.now c.args.tails.now c.args.self.now c.rank_tails-count.new.self.rising.items c.rank_tails-count.new.self.ranks.items c.rank_tails-count.result c.list_loads.new.self.loads.items ranked loads;
+      of_loads = ranked_loads c.args.heads.now c.args.tails.now c.args.self.now c.rank_tails-count.new.self.rising.items
+          c.rank_tails-count.new.self.ranks.items c.rank_tails-count.result c.list_loads.new.self.loads.items ranked
+          loads;
     })
 
 pub envelope_under-requires : goal.envelope_under-requires
@@ -27,9 +34,12 @@ envelope_under-requires c =
       count = search rules;
       line = search rules;
       widths = search rules;
-      loads = rw (c.as_slice-3.ensures.value, c.as_slice-4.ensures.value) (loads_limited (length c.args.heads.now) c.args.heads.now c.args.tails.now rising c.args.self.now c.list_loads.new.self.loads.items c.requires.heads c.requires.tasks are.of_tails are.of_loads);
+      loads = rw (c.as_slice-3.ensures.value, c.as_slice-4.ensures.value)
+          (loads_limited (length c.args.heads.now) c.args.heads.now c.args.tails.now rising c.args.self.now
+          c.list_loads.new.self.loads.items c.requires.heads c.requires.tasks are.of_tails are.of_loads);
       capacity = search rules;
-      tails = rw c.as_slice-4.ensures.value (tails_limited (length c.args.heads.now) c.args.tails.now rising c.args.self.now c.requires.tails c.requires.tasks are.of_tails);
+      tails = rw c.as_slice-4.ensures.value (tails_limited (length c.args.heads.now) c.args.tails.now rising
+          c.args.self.now c.requires.tails c.requires.tasks are.of_tails);
       up = rw c.as_slice-4.ensures.value are.of_tails.up;
     }
 

@@ -13,7 +13,8 @@ go_back-requires c =
 pub invariant_of-self : goal.invariant_of-self
 invariant_of-self c =
     let pairs : c.truncate.new.self.items ≡ front c.self.inside.pairs.items = search rules in
-    let short : length c.truncate.new.self.items ≡ length c.self.inside.pairs.items - 1 = ap length pairs ∙ length-take-le (length c.self.inside.pairs.items - 1) c.self.inside.pairs.items (omega arith) in
+    let short : length c.truncate.new.self.items ≡ length c.self.inside.pairs.items - 1 = ap length pairs
+    ∙ length-take-le (length c.self.inside.pairs.items - 1) c.self.inside.pairs.items (omega arith) in
     let marks : length c.self.inside.matrix.marks ≡ length (c.go_back.new.self.rows ∷ c.go_back.new.self.marks) = ap length c.go_back.ensures in
     let same : length c.self.inside.pairs.items ≡ length c.self.inside.matrix.marks = c.self.invariant in
     omega arith
@@ -21,5 +22,6 @@ invariant_of-self c =
 pub returns-clause-path : goal.returns-clause-path
 returns-clause-path c = λ p path.
     let pairs : c.truncate.new.self.items ≡ front c.args.self.now.pairs = search rules in
-    let marks : c.args.self.now.marked.marks ≡ c.go_back.new.self.rows ∷ c.go_back.new.self.marks = sym (ap (λ (s : PairRows). s.marked.marks) c.self.view_is) ∙ c.go_back.ensures in
+    let marks : c.args.self.now.marked.marks ≡ c.go_back.new.self.rows ∷ c.go_back.new.self.marks =
+    sym (ap (λ (s : PairRows). s.marked.marks) c.self.view_is) ∙ c.go_back.ensures in
     went_back p c.args.self.now (record { pairs = c.truncate.new.self.items; marked = c.go_back.new.self }) path marks pairs

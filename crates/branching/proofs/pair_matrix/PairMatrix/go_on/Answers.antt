@@ -16,7 +16,9 @@ unreachable-requires c =
     let len : c.len.result ≡ length c.loop-pair.self.pairs = search rules in
     let here : slice_get c.args.pairs.now (length c.loop-pair.self.pairs) ≡ Some c.in-Some.pair = rw len at (sym c.get.ensures ∙ c.in-Some.is) in
     let fault = rw c.in-Err-PositiveCycle.field-0-is at c.in-Err-PositiveCycle.ensures.fault in
-    no_cycle_before c.args.project.now c.args.pairs.now (c.loop-pair.self.pairs ++ c.in-Some.pair ∷ []) _ c.requires.live (one_more c.args.pairs.now c.loop-pair.self.pairs c.in-Some.pair c.loop-pair.invariant.begun here)
+    no_cycle_before c.args.project.now c.args.pairs.now (c.loop-pair.self.pairs ++ c.in-Some.pair ∷ []) _
+    c.requires.live (one_more c.args.pairs.now c.loop-pair.self.pairs c.in-Some.pair c.loop-pair.invariant.begun
+    here)
     fault
 
 pub returns-clause-pairs : goal.returns-clause-pairs

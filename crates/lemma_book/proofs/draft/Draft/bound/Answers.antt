@@ -15,7 +15,9 @@ returns-in-Some-clause-value c =
     let ceiling_fits : SFits w64 c.ceiling.result = search rules in
     let value : c.ceiling.result ≡ ceiling_of l = rw (sym c.self.view_is) at c.ceiling.ensures.value in
     let least : c.min.result ≡ int_min c.in-Some.least c.ceiling.result = simp to_z-of_z at c.min.ensures.value in
-    let found : IsBoundOf l c.min.result = going_bound l c.in-Some.least c.min.result c.in-Some.ensures.end.0 c.in-Some.ensures.end.1 (least ∙ ap (int_min c.in-Some.least) value) in
+    let found : IsBoundOf l c.min.result =
+    going_bound l c.in-Some.least c.min.result c.in-Some.ensures.end.0 c.in-Some.ensures.end.1
+    (least ∙ ap (int_min c.in-Some.least) value) in
     simp to_z-of_z (rw (sym c.self.view_is) found)
 
 pub returns-in-Some-clause-law : goal.returns-in-Some-clause-law
@@ -26,7 +28,9 @@ returns-in-Some-clause-law c sound =
     let ceiling_fits : SFits w64 c.ceiling.result = search rules in
     let value : c.ceiling.result ≡ ceiling_of l = rw (sym c.self.view_is) at c.ceiling.ensures.value in
     let least : c.min.result ≡ int_min c.in-Some.least c.ceiling.result = simp to_z-of_z at c.min.ensures.value in
-    let found : IsLowerBound l.project c.min.result = going_law l c.in-Some.least c.min.result (rw (sym c.self.view_is) at sound) c.in-Some.ensures.end.1 (least ∙ ap (int_min c.in-Some.least) value) in
+    let found : IsLowerBound l.project c.min.result =
+    going_law l c.in-Some.least c.min.result (rw (sym c.self.view_is) at sound) c.in-Some.ensures.end.1
+    (least ∙ ap (int_min c.in-Some.least) value) in
     simp to_z-of_z (rw (sym c.self.view_is) found)
 
 pub returns-in-None-clause-value : goal.returns-in-None-clause-value
@@ -42,5 +46,6 @@ returns-in-None-clause-law c sound =
     let l : LedgerOf = ledger_of c.self.inside.premises c.self.inside.best in
     let fits : SFits w64 c.ceiling-in-None.result = search rules in
     let value : c.ceiling-in-None.result ≡ ceiling_of l = rw (sym c.self.view_is) at c.ceiling-in-None.ensures.value in
-    let found : IsLowerBound l.project c.ceiling-in-None.result = ended_law l c.ceiling-in-None.result value (rw (sym c.self.view_is) at sound) c.in-None.ensures.end in
+    let found : IsLowerBound l.project c.ceiling-in-None.result =
+    ended_law l c.ceiling-in-None.result value (rw (sym c.self.view_is) at sound) c.in-None.ensures.end in
     simp to_z-of_z (rw (sym c.self.view_is) found)

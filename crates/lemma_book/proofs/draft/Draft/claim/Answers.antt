@@ -10,7 +10,9 @@ use Rattle.lemma_book.proofs.draft.Draft.claim.Goals as goal
 pub returns-then-is_some-clause-claims : goal.returns-then-is_some-clause-claims
 returns-then-is_some-clause-claims c =
     let l : LedgerOf = ledger_of c.self.inside.premises c.self.inside.best in
-    let live : HasNoPositiveCycle (own_of l) = least_going (own_of l) (end_of l.project) c.least_end.result (sym c.is_some.ensures ∙ c.if-is_some.true) c.least_end.ensures.end in
+    let live : HasNoPositiveCycle (own_of l) =
+    least_going (own_of l) (end_of l.project) c.least_end.result (sym c.is_some.ensures ∙ c.if-is_some.true)
+    c.least_end.ensures.end in
     let fits : SFits w64 c.bound.result = search rules in
     let bound : IsBoundOf c.args.self.now c.bound.result = c.bound.ensures.value in
     (rw (sym c.self.view_is) live, simp to_z-of_z bound)

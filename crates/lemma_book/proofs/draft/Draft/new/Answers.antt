@@ -10,5 +10,6 @@ pub invariant_of-result : goal.invariant_of-result
 invariant_of-result c =
     let value : c.horizon_of.result ≡ pos (horizon c.args.project.now) = c.horizon_of.ensures.value in
     let small = c.horizon_of.ensures.small in
-    let within : IsBetween (pos 0) MAX_CEILING (pos (horizon c.args.project.now + 1)) = record { at_least = omega (arith, ints); at_most = omega (arith, ints, value, small) } in
+    let within : IsBetween (pos 0) MAX_CEILING (pos (horizon c.args.project.now + 1)) =
+    record { at_least = omega (arith, ints); at_most = omega (arith, ints, value, small) } in
     first_is c.args.project.now c.in_ok-new.field-0 within c.in_ok-new.ensures

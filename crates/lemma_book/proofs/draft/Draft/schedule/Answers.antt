@@ -19,7 +19,8 @@ deadline-arc-requires c =
     let low : pos 0 ≤ℤ makespan c.args.starts = makespan_low c.self.inside.premises.project c.args.starts two may.feasible in
     let high = c.self.invariant.at_most in
     let shorter : makespan c.args.starts <ℤ ceiling_of l = may.shorter in
-    let within : IsBetween (pos 0) MAX_CEILING c.last_of.result = record { at_least = omega (arith, ints, last, low); at_most = omega (arith, ints, last, shorter, high) } in
+    let within : IsBetween (pos 0) MAX_CEILING c.last_of.result =
+    record { at_least = omega (arith, ints, last, low); at_most = omega (arith, ints, last, shorter, high) } in
     simp to_z-of_z within
 
 pub invariant_of-self-2 : goal.invariant_of-self-2

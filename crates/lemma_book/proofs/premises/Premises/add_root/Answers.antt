@@ -12,7 +12,8 @@ invariant_of-self-in_default c =
     let light : IsLight (activity_count x.project) c.args.arc = rw (sym c.self.view_is) at c.requires in
     let none : c.self.inside.bench ≡ None = c.in_default.is in
     let cycle : HasPositiveCycle (root_arcs x) = rw none at c.self.invariant.root in
-    rw (c.in_ok-push.ensures.items, none) (with_root_are x c.self.inside.bench None c.args.arc c.self.invariant light (root_none (root_arcs x) (c.args.arc ∷ []) cycle))
+    rw (c.in_ok-push.ensures.items, none) (with_root_are x c.self.inside.bench None c.args.arc c.self.invariant light
+    (root_none (root_arcs x) (c.args.arc ∷ []) cycle))
 
 pub invariant_of-self-in-Ok-true : goal.invariant_of-self-in-Ok-true
 invariant_of-self-in-Ok-true c =

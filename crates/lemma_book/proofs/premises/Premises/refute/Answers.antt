@@ -25,7 +25,11 @@ returns-clause-refuted c =
     rw (sym c.self.view_is) (IfOk-weaker c.refute.result
     (λ found. (own : List Lag) → IsMatrixOf (activity_count c.self.inside.project.now) own c.in-Some.bench.rows →
     MatchOption found (¬ IsRefuted c.self.inside.project.now c.self.inside.lemmas.items own c.args.arcs.now c.args.lines.now)
-    (λ (used : Vec ℕ Global). IsRefuted c.self.inside.project.now c.self.inside.lemmas.items own c.args.arcs.now c.args.lines.now × IsRefuted c.self.inside.project.now c.self.inside.lemmas.items own c.args.arcs.now (picked c.args.lines.now used.items)))
+    (λ (used : Vec ℕ Global). IsRefuted c.self.inside.project.now c.self.inside.lemmas.items own c.args.arcs.now
+    c.args.lines.now × IsRefuted c.self.inside.project.now c.self.inside.lemmas.items own c.args.arcs.now
+    (picked c.args.lines.now used.items)))
     (λ found. MatchOption found (¬ IsRefuted c.self.inside.project.now c.self.inside.lemmas.items (root_arcs x) c.args.arcs.now c.args.lines.now)
-    (λ (used : Vec ℕ Global). IsRefuted c.self.inside.project.now c.self.inside.lemmas.items (root_arcs x) c.args.arcs.now c.args.lines.now × IsRefuted c.self.inside.project.now c.self.inside.lemmas.items (root_arcs x) c.args.arcs.now (picked c.args.lines.now used.items)))
+    (λ (used : Vec ℕ Global). IsRefuted c.self.inside.project.now c.self.inside.lemmas.items (root_arcs x)
+    c.args.arcs.now c.args.lines.now × IsRefuted c.self.inside.project.now c.self.inside.lemmas.items (root_arcs x)
+    c.args.arcs.now (picked c.args.lines.now used.items)))
     (λ found all. all (root_arcs x) m) told)

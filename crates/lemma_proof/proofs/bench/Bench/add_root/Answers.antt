@@ -28,7 +28,8 @@ invariant_of-self-2 c =
     let law : IsMatrix c.self.inside.matrix.rows = rw c.self.invariant.same at c.activity_count.ensures.law.matrix in
     let light : IsLight (length c.self.inside.matrix.rows) c.args.arc = rw (sym c.self.view_is) at c.requires in
     let taken : IsInserted c.args.arc c.self.inside.matrix c.take_arc.new.dense false = rw c.if-branch.false at c.in_ok-take_arc.ensures.taken in
-    let same : rows_over c.args.arc c.self.inside.matrix.rows ≡ c.take_arc.new.dense.rows = taken_rows c.args.arc c.self.inside.matrix c.take_arc.new.dense law light taken in
+    let same : rows_over c.args.arc c.self.inside.matrix.rows ≡ c.take_arc.new.dense.rows =
+    taken_rows c.args.arc c.self.inside.matrix c.take_arc.new.dense law light taken in
     let wide = c.in_ok-take_arc.ensures.wide in
     record {
       same = c.take_root.ensures.rows ∙ rw c.self.invariant.same same;

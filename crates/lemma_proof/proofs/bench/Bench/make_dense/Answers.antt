@@ -13,5 +13,8 @@ returns-clause-made c = λ own m.
     let more = ap (λ (x : BenchOf). x.more) c.self.view_is in
     let here : IsMatrixOf (length c.self.inside.matrix.rows) own c.self.inside.matrix.rows = rw rows m in
     let with = rw c.matrix.ensures at c.in_ok-dense.ensures.with in
-    let known : IsKnownOf (length c.self.inside.matrix.rows) own c.self.inside.block.more c.is_none-self-inside.result c.self.inside.block.more c.in_ok-dense.dense = made (length c.self.inside.matrix.rows) own c.self.inside.block.more c.in_ok-dense.dense c.is_none-self-inside.result (with own here) c.is_none-self-inside.ensures in
+    let known : IsKnownOf (length c.self.inside.matrix.rows) own c.self.inside.block.more c.is_none-self-inside.result
+    c.self.inside.block.more c.in_ok-dense.dense =
+    made (length c.self.inside.matrix.rows) own c.self.inside.block.more c.in_ok-dense.dense
+    c.is_none-self-inside.result (with own here) c.is_none-self-inside.ensures in
     rw (sym rows, sym more) known

@@ -11,7 +11,9 @@ returns-clause-all c =
     let old = c.args.self.now in
     let new = c.make_dense.new.self in
     on_both c.make_dense.result
-    ((own : List Lag) → IsMatrixOf (length c.args.self.now.rows) own c.args.self.now.rows → IsKnownOf (length c.args.self.now.rows) own c.args.self.now.more c.make_dense.new.self.is_infeasible c.make_dense.new.self.more c.make_dense.new.self.dense)
+    ((own : List Lag) → IsMatrixOf (length c.args.self.now.rows) own c.args.self.now.rows
+    → IsKnownOf (length c.args.self.now.rows) own c.args.self.now.more c.make_dense.new.self.is_infeasible
+    c.make_dense.new.self.more c.make_dense.new.self.dense)
     (is_some c.make_dense.new.self.dense ≡ not c.make_dense.new.self.is_infeasible)
     ((own arcs : List Lag) → Holds own arcs c.args.self.now → IsMatrixOfAll (length c.args.self.now.rows) own arcs c.make_dense.new.self.dense)
     (λ known there own arcs h. all_made own arcs old new c.requires.live c.requires.none h known there)
@@ -22,7 +24,9 @@ returns-clause-kept c =
     let old = c.args.self.now in
     let new = c.make_dense.new.self in
     on_both c.make_dense.result
-    ((own : List Lag) → IsMatrixOf (length c.args.self.now.rows) own c.args.self.now.rows → IsKnownOf (length c.args.self.now.rows) own c.args.self.now.more c.make_dense.new.self.is_infeasible c.make_dense.new.self.more c.make_dense.new.self.dense)
+    ((own : List Lag) → IsMatrixOf (length c.args.self.now.rows) own c.args.self.now.rows
+    → IsKnownOf (length c.args.self.now.rows) own c.args.self.now.more c.make_dense.new.self.is_infeasible
+    c.make_dense.new.self.more c.make_dense.new.self.dense)
     (is_some c.make_dense.new.self.dense ≡ not c.make_dense.new.self.is_infeasible)
     ((own arcs : List Lag) → Holds own arcs c.args.self.now → Holds own arcs c.make_dense.new.self)
     (λ known there own arcs h. held_settled own arcs old new c.requires.live c.requires.none h known c.make_dense.ensures.rows)

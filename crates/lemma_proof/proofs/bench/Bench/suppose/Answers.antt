@@ -18,14 +18,18 @@ loop-arc-init c = record {
 pub loop-arc-preserved : goal.loop-arc-preserved
 loop-arc-preserved c = record {
   rows = c.in_ok-add.ensures.rows ∙ c.loop-arc.invariant.rows;
-  so_far = λ own m. rw (take_more c.args.arcs.now c.loop-arc.arc-index zero_arc c.loop-arc-test.true) (c.in_ok-add.ensures.added own (take c.loop-arc.arc-index c.args.arcs.now) (c.loop-arc.invariant.so_far own m));
+  so_far = λ own m. rw (take_more c.args.arcs.now c.loop-arc.arc-index zero_arc c.loop-arc-test.true)
+      (c.in_ok-add.ensures.added own (take c.loop-arc.arc-index c.args.arcs.now) (c.loop-arc.invariant.so_far own m));
 }
 
 pub returns-then-self-clause-rows : goal.returns-then-self-clause-rows
 returns-then-self-clause-rows c = c.loop-arc.invariant.rows
 
 pub returns-then-self-clause-supposed : goal.returns-then-self-clause-supposed
-returns-then-self-clause-supposed c = λ own m. held_dead own (take c.loop-arc.arc-index c.args.arcs.now) c.args.arcs.now c.loop-arc.self (sym (ap (λ (x : BenchOf). x.is_infeasible) c.self.view_is) ∙ c.if-self.true) (taken_part own c.args.arcs.now c.loop-arc.arc-index) (c.loop-arc.invariant.so_far own m)
+returns-then-self-clause-supposed c = λ own m.
+    held_dead own (take c.loop-arc.arc-index c.args.arcs.now) c.args.arcs.now c.loop-arc.self
+    (sym (ap (λ (x : BenchOf). x.is_infeasible) c.self.view_is) ∙ c.if-self.true)
+    (taken_part own c.args.arcs.now c.loop-arc.arc-index) (c.loop-arc.invariant.so_far own m)
 
 pub returns-clause-rows : goal.returns-clause-rows
 returns-clause-rows c = c.loop-arc.invariant.rows

@@ -14,28 +14,37 @@ pub returns-then-a-eq0-clause-small : goal.returns-then-a-eq0-clause-small
 returns-then-a-eq0-clause-small c =
     let fits : SFits w64 c.tried.result = search rules in
     let to : c.args.b < length c.self.inside.heads.rows = rw (sym c.self.view_is) at c.requires.to_activity in
-    let small = there_small c.self.inside.heads.rows c.self.inside.heads.tried c.self.inside.tails.tried c.tried.ensures.law.table c.self.invariant.tried c.args.b to in
+    let small = there_small c.self.inside.heads.rows c.self.inside.heads.tried c.self.inside.tails.tried
+    c.tried.ensures.law.table c.self.invariant.tried c.args.b to in
     simp to_z-of_z (rw c.tried.ensures.value (record { at_least = omega (arith, ints, small.at_least); at_most = omega (arith, ints, small.at_most) }))
 
 pub returns-then-b-eq0-clause-small : goal.returns-then-b-eq0-clause-small
 returns-then-b-eq0-clause-small c =
     let fits : SFits w64 c.tried-then-b-eq0.result = search rules in
     let from : c.args.a < length c.self.inside.heads.rows = rw (sym c.self.view_is) at c.requires.from_activity in
-    let small = tails_small c.self.inside.heads.rows c.self.inside.tails.rows c.self.inside.heads.tried c.self.inside.tails.tried c.self.invariant.converse c.tried-then-b-eq0.ensures.law.table c.self.invariant.tried c.args.a from in
-    simp to_z-of_z (rw c.tried-then-b-eq0.ensures.value (record { at_least = omega (arith, ints, small.at_least); at_most = omega (arith, ints, small.at_most) }))
+    let small = tails_small c.self.inside.heads.rows c.self.inside.tails.rows c.self.inside.heads.tried
+    c.self.inside.tails.tried c.self.invariant.converse c.tried-then-b-eq0.ensures.law.table c.self.invariant.tried
+    c.args.a from in
+    simp to_z-of_z (rw c.tried-then-b-eq0.ensures.value
+    (record { at_least = omega (arith, ints, small.at_least); at_most = omega (arith, ints, small.at_most) }))
 
 pub or_by_start-requires-clause-tail : goal.or_by_start-requires-clause-tail
 or_by_start-requires-clause-tail c =
     let fits : SFits w64 c.tried-2.result = search rules in
     let from : c.args.a < length c.self.inside.heads.rows = rw (sym c.self.view_is) at c.requires.from_activity in
-    let small : IsWithin MAX_WALK_WEIGHT (start c.self.inside.tails.tried c.args.a) = tails_small c.self.inside.heads.rows c.self.inside.tails.rows c.self.inside.heads.tried c.self.inside.tails.tried c.self.invariant.converse c.tried-2.ensures.law.table c.self.invariant.tried c.args.a from in
+    let small : IsWithin MAX_WALK_WEIGHT (start c.self.inside.tails.tried c.args.a) =
+    tails_small c.self.inside.heads.rows c.self.inside.tails.rows c.self.inside.heads.tried
+    c.self.inside.tails.tried c.self.invariant.converse c.tried-2.ensures.law.table c.self.invariant.tried c.args.a
+    from in
     simp to_z-of_z (rw c.tried-2.ensures.value small)
 
 pub or_by_start-requires-clause-head : goal.or_by_start-requires-clause-head
 or_by_start-requires-clause-head c =
     let fits : SFits w64 c.tried-3.result = search rules in
     let to : c.args.b < length c.self.inside.heads.rows = rw (sym c.self.view_is) at c.requires.to_activity in
-    let small : IsWithin MAX_WALK_WEIGHT (start c.self.inside.heads.tried c.args.b) = there_small c.self.inside.heads.rows c.self.inside.heads.tried c.self.inside.tails.tried c.tried-3.ensures.law.table c.self.invariant.tried c.args.b to in
+    let small : IsWithin MAX_WALK_WEIGHT (start c.self.inside.heads.tried c.args.b) =
+    there_small c.self.inside.heads.rows c.self.inside.heads.tried c.self.inside.tails.tried
+    c.tried-3.ensures.law.table c.self.invariant.tried c.args.b to in
     simp to_z-of_z (rw c.tried-3.ensures.value small)
 
 pub returns-clause-value : goal.returns-clause-value
@@ -44,6 +53,10 @@ returns-clause-value c =
     let tail_fits : SFits w64 c.tried-2.result = search rules in
     let head_fits : SFits w64 c.tried-3.result = search rules in
     let fits : SFits w64 c.or_by_start.result = search rules in
-    let sum : greater (Some c.weight.result) (Some (c.tried-2.result +ℤ c.tried-3.result)) ≡ Some c.or_by_start.result = simp to_z-of_z at c.or_by_start.ensures.value in
-    let here : greater (entry c.self.inside.heads.rows c.args.a c.args.b) (Some (start c.self.inside.tails.tried c.args.a +ℤ start c.self.inside.heads.tried c.args.b)) ≡ Some c.or_by_start.result = rw (c.weight.ensures.value, ← c.tried-2.ensures.value, ← c.tried-3.ensures.value) sum in
-    simp to_z-of_z (rw (← c.self.view_is) (seen_between c.self.inside.heads.rows c.self.inside.heads.tried c.self.inside.tails.tried c.args.a c.args.b (omega arith) (omega arith) ∙ here))
+    let sum : greater (Some c.weight.result) (Some (c.tried-2.result +ℤ c.tried-3.result)) ≡ Some c.or_by_start.result =
+    simp to_z-of_z at c.or_by_start.ensures.value in
+    let here : greater (entry c.self.inside.heads.rows c.args.a c.args.b)
+    (Some (start c.self.inside.tails.tried c.args.a +ℤ start c.self.inside.heads.tried c.args.b)) ≡ Some
+    c.or_by_start.result = rw (c.weight.ensures.value, ← c.tried-2.ensures.value, ← c.tried-3.ensures.value) sum in
+    simp to_z-of_z (rw (← c.self.view_is) (seen_between c.self.inside.heads.rows c.self.inside.heads.tried
+    c.self.inside.tails.tried c.args.a c.args.b (omega arith) (omega arith) ∙ here))

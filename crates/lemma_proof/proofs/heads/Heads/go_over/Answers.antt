@@ -8,10 +8,17 @@ use Rattle.lemma_proof.proofs.heads.Heads.go_over.Goals as goal
 
 pub invariant_of-self : goal.invariant_of-self
 invariant_of-self c =
-    let x : HeadsOf = record { rows = table_rows c.self.inside.table.items; arcs = c.self.inside.arcs.items; heads = c.self.inside.heads.items; tried = c.self.inside.tried.items } in
+    let x : HeadsOf = record {
+      rows = table_rows c.self.inside.table.items;
+      arcs = c.self.inside.arcs.items;
+      heads =
+          c.self.inside.heads.items;
+      tried = c.self.inside.tried.items;
+    } in
     let light : IsLight (length (table_rows c.self.inside.table.items)) c.args.arc = rw (sym c.self.view_is) at c.requires.light in
     let none : ClosesNone c.args.arc (table_rows c.self.inside.table.items) = rw (sym c.self.view_is) at c.requires.none in
-    let is : table_rows c.go_over.new.table ≡ rows_over c.args.arc (table_rows c.self.inside.table.items) = rw c.as_mut_slice.ensures.value at c.go_over.ensures in
+    let is : table_rows c.go_over.new.table ≡ rows_over c.args.arc (table_rows c.self.inside.table.items) =
+    rw c.as_mut_slice.ensures.value at c.go_over.ensures in
     let long = table_long c.go_over.new.table (rows_over c.args.arc (table_rows c.self.inside.table.items)) is in
     let old = length-rows_over c.args.arc (table_rows c.self.inside.table.items) in
     let many = table_long c.self.inside.table.items (table_rows c.self.inside.table.items) refl in
@@ -21,7 +28,8 @@ invariant_of-self c =
 
 pub returns : goal.returns
 returns c =
-    let is : table_rows c.go_over.new.table ≡ rows_over c.args.arc (table_rows c.self.inside.table.items) = rw c.as_mut_slice.ensures.value at c.go_over.ensures in
+    let is : table_rows c.go_over.new.table ≡ rows_over c.args.arc (table_rows c.self.inside.table.items) =
+    rw c.as_mut_slice.ensures.value at c.go_over.ensures in
     let long = table_long c.go_over.new.table (rows_over c.args.arc (table_rows c.self.inside.table.items)) is in
     let old = length-rows_over c.args.arc (table_rows c.self.inside.table.items) in
     let many = table_long c.self.inside.table.items (table_rows c.self.inside.table.items) refl in

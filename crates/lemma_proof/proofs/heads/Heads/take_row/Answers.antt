@@ -6,7 +6,9 @@ use Rattle.lemma_proof.proofs.heads.Heads.take_row.Goals as goal
 pub copy_from_slice-requires : goal.copy_from_slice-requires
 copy_from_slice-requires c =
     let low : c.args.a < length (table_rows c.self.inside.table.items) = rw (sym c.self.view_is) at c.requires in
-    let row : IsFullRow (table_rows c.self.inside.table.items) c.args.a c.index.result.now.items = row_at c.self.inside.table.items (table_rows c.self.inside.table.items) c.args.a c.index.result.now refl c.self.invariant.table.matrix low c.index.ensures in
+    let row : IsFullRow (table_rows c.self.inside.table.items) c.args.a c.index.result.now.items =
+    row_at c.self.inside.table.items (table_rows c.self.inside.table.items) c.args.a c.index.result.now refl
+    c.self.invariant.table.matrix low c.index.ensures in
     let long = row.long in
     let many = c.self.invariant.tried_long in
     let from = ap length c.as_slice.ensures.value in
@@ -16,7 +18,9 @@ copy_from_slice-requires c =
 pub returns-clause-row : goal.returns-clause-row
 returns-clause-row c =
     let low : c.args.a < length (table_rows c.self.inside.table.items) = rw (sym c.self.view_is) at c.requires in
-    let row : IsFullRow (table_rows c.self.inside.table.items) c.args.a c.index.result.now.items = row_at c.self.inside.table.items (table_rows c.self.inside.table.items) c.args.a c.index.result.now refl c.self.invariant.table.matrix low c.index.ensures in
+    let row : IsFullRow (table_rows c.self.inside.table.items) c.args.a c.index.result.now.items =
+    row_at c.self.inside.table.items (table_rows c.self.inside.table.items) c.args.a c.index.result.now refl
+    c.self.invariant.table.matrix low c.index.ensures in
     let now : c.copy_from_slice.new.self ≡ c.index.result.now.items = c.copy_from_slice.ensures.after ∙ c.as_slice.ensures.value in
     let many = c.self.invariant.tried_long in
     let long : length c.copy_from_slice.new.self ≡ length (table_rows c.self.inside.table.items) = ap length now ∙ row.long in

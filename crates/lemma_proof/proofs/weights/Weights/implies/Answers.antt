@@ -14,4 +14,5 @@ pub returns : goal.returns
 returns c =
     let fits : SFits w64 c.args.arc.weight = search rules in
     let never : ¬ Reaches c.args.arc.weight c.get.result = simp to_z-of_z at (rw c.if-is_at_most.false at c.is_at_most.ensures) in
-    told_beside c.args.self.now c.args.arc c.get.result c.implies_beside.result c.requires.from_activity c.requires.to_activity c.get.ensures.value never c.implies_beside.ensures
+    told_beside c.args.self.now c.args.arc c.get.result c.implies_beside.result c.requires.from_activity
+    c.requires.to_activity c.get.ensures.value never c.implies_beside.ensures

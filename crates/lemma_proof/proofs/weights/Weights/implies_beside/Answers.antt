@@ -20,5 +20,8 @@ returns-in-Seen c = λ yes.
     let x = c.in-Seen.block.now in
     let view = rw c.in-Seen.is at c.self.view_is in
     let P : Entries → Type 0 = λ y. ImpliesWith (length y.rows) y.own y.more c.args.arc in
-    let here : ImpliesWith (length (entries_of_block c.in-Seen.tried c.in-Seen.block.now).rows) (entries_of_block c.in-Seen.tried c.in-Seen.block.now).own (entries_of_block c.in-Seen.tried c.in-Seen.block.now).more c.args.arc = rw (length-entries trial x, own-entries trial x) (c.seen_beside.ensures yes) in
+    let here : ImpliesWith (length (entries_of_block c.in-Seen.tried c.in-Seen.block.now).rows)
+    (entries_of_block c.in-Seen.tried c.in-Seen.block.now).own
+    (entries_of_block c.in-Seen.tried c.in-Seen.block.now).more c.args.arc =
+    rw (length-entries trial x, own-entries trial x) (c.seen_beside.ensures yes) in
     subst P view here

@@ -13,4 +13,6 @@ invariant_of-self-else-is_err g c =
     let is_step : IsTrue c.is_step.result = search rules in
     let is_writable : IsTrue c.is_writable.result = search rules in
     let ok : is_err c.log_event.result ≡ false = search rules in
-    logged_more c.self.inside.ledger c.take.new.ledger c.args.event c.in-Some-2.logged (whole c.in-Some.log) (whole c.log_event.new.log) log (c.is_step.ensures.0 is_step) (c.is_writable.ensures.0 is_writable) taken (search rules) (search rules)
+    logged_more c.self.inside.ledger c.take.new.ledger c.args.event c.in-Some-2.logged (whole c.in-Some.log)
+    (whole c.log_event.new.log) log (c.is_step.ensures.0 is_step) (c.is_writable.ensures.0 is_writable) taken
+    (search rules) (search rules)

@@ -42,6 +42,11 @@ pub returns-then-is_cut_off-clause-read : goal.returns-then-is_cut_off-clause-re
 returns-then-is_cut_off-clause-read c p text read =
     let x : CheckerOf = checker_of c.self.inside.part c.self.inside.draft c.self.inside.left.items c.self.inside.due c.self.inside.proved in
     let none : is_some c.self.inside.proved ≡ false = sym c.is_some.ensures ∙ c.if-is_some.false in
-    let at : IsAt x.part p (text ++ c.args.piece.now) x.ledger (x.left ++ c.args.piece.now) x.due = event_piece p text c.args.piece.now x none c.if-self-eq0.false (rw (sym c.self.view_is) at read) in
-    let short : read_in (x.left ++ c.args.piece.now) ≡ Err Short = rw (c.deref.ensures.value, c.in_ok-extend_from_slice.ensures.items) at (c.is_cut_off.ensures.0 c.if-is_cut_off.true) in
-    rw c.in_ok-extend_from_slice.ensures.items (event_waits p (text ++ c.args.piece.now) (checker_of x.part x.ledger (x.left ++ c.args.piece.now) x.due x.proved) none at short)
+    let at : IsAt x.part p (text ++ c.args.piece.now) x.ledger (x.left ++ c.args.piece.now) x.due =
+    event_piece p text c.args.piece.now x none c.if-self-eq0.false (rw (sym c.self.view_is) at read) in
+    let short : read_in (x.left ++ c.args.piece.now) ≡ Err Short =
+    rw (c.deref.ensures.value, c.in_ok-extend_from_slice.ensures.items) at
+    (c.is_cut_off.ensures.0 c.if-is_cut_off.true) in
+    rw c.in_ok-extend_from_slice.ensures.items
+    (event_waits p (text ++ c.args.piece.now)
+    (checker_of x.part x.ledger (x.left ++ c.args.piece.now) x.due x.proved) none at short)

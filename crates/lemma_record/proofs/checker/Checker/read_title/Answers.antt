@@ -16,7 +16,9 @@ returns-in_default-clause-read c p text here =
 pub returns-clause-fault : goal.returns-clause-fault
 returns-clause-fault c =
     let x : CheckerOf = checker_of c.self.inside.part c.self.inside.draft c.self.inside.left.items c.self.inside.due c.self.inside.proved in
-    let found : (n : ℕ) × (title_in c.self.inside.left.items ≡ Ok n) × (c.in-Some.rest.items ≡ drop n c.self.inside.left.items) = rw (c.in-Some.is, c.deref.ensures.value) at c.in_ok-rest.ensures.rest in
+    let found : (n : ℕ) × (title_in c.self.inside.left.items ≡ Ok n)
+    × (c.in-Some.rest.items ≡ drop n c.self.inside.left.items) =
+    rw (c.in-Some.is, c.deref.ensures.value) at c.in_ok-rest.ensures.rest in
     rw (sym c.self.view_is)
     (MatchResult-weaker c.read_events.result c.read_events.ensures.fault (λ _ _. tt)
     (λ fault told other p text more (at : IsAtTitle p text x).

@@ -8,4 +8,5 @@ invariant_of-self c =
 
 pub invariant_of-self-2 : goal.invariant_of-self-2
 invariant_of-self-2 c =
-    followed c.self.inside.premises c.premises.result.now c.follow.new.self c.in_ok-same.same c.self.inside.proved.items c.in_ok-same.ensures.followed c.self.invariant
+    followed c.self.inside.premises c.premises.result.now c.follow.new.self c.in_ok-same.same c.self.inside.proved.items
+    c.in_ok-same.ensures.followed c.self.invariant

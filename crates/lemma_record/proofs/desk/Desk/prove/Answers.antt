@@ -14,7 +14,16 @@ invariant_of-self-2 c =
     let copy : c.new-copy.result ≡ c.args.arcs = search rules in
     let lines : c.in_ok-lines.lines ≡ picked c.args.lines.now c.in-Some.places.items = search rules in
     let several : 1 < length c.args.arcs = rw c.as_slice.ensures at c.if-as_slice-lt2.false in
-    let room : HasRoom c.self.inside.premises.lemmas c.args.slot c.args.arcs = rw c.as_slice-else-as_slice-lt2.ensures at (c.has_room.ensures.0 c.if-not-has_room.false) in
+    let room : HasRoom c.self.inside.premises.lemmas c.args.slot c.args.arcs =
+    rw c.as_slice-else-as_slice-lt2.ensures at (c.has_room.ensures.0 c.if-not-has_room.false) in
     let told = rw (c.in-Some.is, c.as_slice-2.ensures) at c.in_ok-places.ensures.refuted in
-    let refuted : IsRefuted c.self.inside.premises.project c.self.inside.premises.lemmas (root_arcs c.self.inside.premises) c.args.arcs c.in_ok-lines.lines = rw lines told.1 in
-    rw (c.push_reserved.ensures.items, c.in_ok-reserve.ensures.items, c.in_ok-shelve.ensures.filled, copy, c.in_ok-places.ensures.same) (proved_more c.self.inside.premises c.self.inside.proved.items lemma room (record { several = several; refuted = refuted }) c.self.invariant)
+    let refuted : IsRefuted c.self.inside.premises.project c.self.inside.premises.lemmas
+    (root_arcs c.self.inside.premises) c.args.arcs c.in_ok-lines.lines = rw lines told.1 in
+    rw (
+      c.push_reserved.ensures.items,
+      c.in_ok-reserve.ensures.items,
+      c.in_ok-shelve.ensures.filled,
+      copy,
+      c.in_ok-places.ensures.same,
+    ) (proved_more c.self.inside.premises c.self.inside.proved.items lemma room
+    (record { several = several; refuted = refuted }) c.self.invariant)

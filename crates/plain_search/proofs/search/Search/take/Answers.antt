@@ -15,13 +15,17 @@ expand-requires c =
 
 pub invariant_of-result : goal.invariant_of-result
 invariant_of-result c =
-    let drops : DropsOver (ceiling_of c.self.inside.best) (map arc_value c.self.inside.stack.items) [] = rw c.makespan_of-ceiling.ensures at c.in-None.ensures.0 in
+    let drops : DropsOver (ceiling_of c.self.inside.best) (map arc_value c.self.inside.stack.items) [] =
+    rw c.makespan_of-ceiling.ensures at c.in-None.ensures.0 in
     rw c.in-None.ensures.1 (drops_keep c.self.inside.project.value c.self.inside.best (map arc_value c.self.inside.stack.items) [] drops c.self.invariant)
 
 pub invariant_of-result-2 : goal.invariant_of-result-2
 invariant_of-result-2 c =
     let children : map arc_value c.append.new.self.items ≡ map arc_value c.next_node.new.stack.items ++ c.in_ok-report.report.children =
-    ap (map arc_value) c.in_ok-append.ensures.items ∙ map-append arc_value c.next_node.new.stack.items c.into_parts-found.result.1.children.items ∙ ap (λ (ks : List Subproblem). map arc_value c.next_node.new.stack.items ++ ks) c.into_parts-found.ensures.children in
+    ap (map arc_value) c.in_ok-append.ensures.items
+    ∙ map-append arc_value c.next_node.new.stack.items c.into_parts-found.result.1.children.items
+    ∙ ap (λ (ks : List Subproblem). map arc_value c.next_node.new.stack.items ++ ks)
+    c.into_parts-found.ensures.children in
     let old : SearchState = record { project = c.self.inside.project.value; best = c.self.inside.best; nodes = map arc_value c.self.inside.stack.items } in
     let new : SearchState = record { project = c.self.inside.project.value; best = c.shorter_of-best.result; nodes = map arc_value c.append.new.self.items } in
     let take : IsTake old new = record {

@@ -21,7 +21,8 @@ returns-clause-count c =
       passed = c.args.self.now.passed + 1;
       totals = with_items c.args.self.now.totals c.add_demands.new.totals;
     } in
-    let long : length c.add_demands.new.totals ≡ length c.args.self.now.totals.items = c.add_demands.auto.totals ∙ ap (λ (xs : List ℕ). length xs) c.as_mut_slice.ensures.value in
+    let long : length c.add_demands.new.totals ≡ length c.args.self.now.totals.items = c.add_demands.auto.totals
+    ∙ ap (λ (xs : List ℕ). length xs) c.as_mut_slice.ensures.value in
     let items = with_items_is c.args.self.now.totals c.add_demands.new.totals (long ∙ sym c.args.self.now.totals.ok.0) in
     count_more c.args.project.now c.args.self.now new c.requires.count c.requires.some refl refl refl (ap length items ∙ long)
     (rw items (rw (c.as_slice.ensures.value, c.as_mut_slice.ensures.value) at c.add_demands.ensures))

@@ -13,7 +13,10 @@ invariant_of-self-2 g c =
     let piece : List ℕ = c.in-Some.piece.items in
     let mine : c.take_log.new.mine ≡ text ++ piece = c.in-Some.ensures.taken.0 in
     let log : IsLogOf c.take_log.new.self.ledger (text ++ piece) = rw mine at c.in-Some.ensures.log in
-    let copied : IsCopied step.result told (g.D.Output.held step.new.device) failures (g.D.Output.failed step.new.device) piece = rw c.deref.ensures.value at step.ensures.copied in
+    let copied : IsCopied step.result told (g.D.Output.held step.new.device) failures
+    (g.D.Output.failed step.new.device) piece = rw c.deref.ensures.value at step.ensures.copied in
     let more : step.new.bytes ≡ min (c.self.inside.bytes + length piece) (2 ^ 64 - 1) = rw c.deref.ensures.value at step.ensures.count in
     let had : IsRecorder g.J.Before.told g.J.Before.failures told failures text c.self.inside.bytes false = rw c.if-self.false at c.self.invariant in
-    rw mine (recorded_more g.J.Before.told told (g.D.Output.held step.new.device) g.J.Before.failures failures (g.D.Output.failed step.new.device) text piece c.self.inside.bytes step.new.bytes step.result c.take_log.new.self.ledger had log copied more)
+    rw mine (recorded_more g.J.Before.told told (g.D.Output.held step.new.device) g.J.Before.failures failures
+    (g.D.Output.failed step.new.device) text piece c.self.inside.bytes step.new.bytes step.result
+    c.take_log.new.self.ledger had log copied more)

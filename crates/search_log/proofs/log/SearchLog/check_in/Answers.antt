@@ -19,7 +19,8 @@ returns-clause-ok c =
     let count : c.len-first.result ≡ length kept = search rules in
     let first : c.len-first.result ≡ length entries = count ∙ (sym (length-map kept trail_entry) ∙ ap (λ (t : TrailOf). length t.entries) c.self.view_is) in
     let told : node_ending c.in_ok-ending.ending ≡ ending_of c.args.limit c.len-first.result report = c.in_ok-ending.ensures in
-    let ending : node_ending c.in_ok-ending.ending ≡ ending_of c.args.limit (length entries) report = told ∙ ap (λ (n : ℕ). ending_of c.args.limit n report) first in
+    let ending : node_ending c.in_ok-ending.ending ≡ ending_of c.args.limit (length entries) report = told
+    ∙ ap (λ (n : ℕ). ending_of c.args.limit n report) first in
     c.end.ensures
     ∙ (ap (λ (t : TrailOf). trail_for t.project (ended_as t.entries c.args.name (node_ending c.in_ok-ending.ending))) added
     ∙ (ap (λ (e : Ending). trail_for p (ended_as (entries ++ more) c.args.name e)) ending

@@ -8,16 +8,26 @@ use Rattle.search_record.proofs.due.Due.split.Goals as goal
 pub invariant_of-self : goal.invariant_of-self
 invariant_of-self c =
     let node = c.self.inside.node in
-    let named : NameActivities node.project c.in_ok-pairs.pairs.items = rw c.in_ok-pairs.ensures (named_pairs node.project c.args.members.now (rw (ap (λ (d : DueNodes). d.project) c.self.view_is) c.requires.named)) in
-    let some : 0 < length (nodes_due c.self.inside.is_there node.pairs (reverse c.self.inside.later.items)) = rw (ap (λ (d : DueNodes). d.nodes) c.self.view_is) c.requires.there in
-    split_along c.self.inside.is_there node (reverse c.self.inside.later.items) (reverse c.push_later.new.later.items) c.depth-depth.result c.depth-depth.ensures some c.self.invariant (c.push_later.ensures.nested node.project named)
+    let named : NameActivities node.project c.in_ok-pairs.pairs.items =
+    rw c.in_ok-pairs.ensures (named_pairs node.project c.args.members.now
+    (rw (ap (λ (d : DueNodes). d.project) c.self.view_is) c.requires.named)) in
+    let some : 0 < length (nodes_due c.self.inside.is_there node.pairs (reverse c.self.inside.later.items)) =
+    rw (ap (λ (d : DueNodes). d.nodes) c.self.view_is) c.requires.there in
+    split_along c.self.inside.is_there node (reverse c.self.inside.later.items) (reverse c.push_later.new.later.items)
+    c.depth-depth.result c.depth-depth.ensures some c.self.invariant
+    (c.push_later.ensures.nested node.project named)
 
 pub invariant_of-self-2 : goal.invariant_of-self-2
 invariant_of-self-2 c =
     let node = c.self.inside.node in
-    let named : NameActivities node.project c.in_ok-pairs.pairs.items = rw c.in_ok-pairs.ensures (named_pairs node.project c.args.members.now (rw (ap (λ (d : DueNodes). d.project) c.self.view_is) c.requires.named)) in
-    let some : 0 < length (nodes_due c.self.inside.is_there node.pairs (reverse c.self.inside.later.items)) = rw (ap (λ (d : DueNodes). d.nodes) c.self.view_is) c.requires.there in
-    split_along c.self.inside.is_there node (reverse c.self.inside.later.items) (reverse c.push_later.new.later.items) c.depth-depth.result c.depth-depth.ensures some c.self.invariant (c.push_later.ensures.nested node.project named)
+    let named : NameActivities node.project c.in_ok-pairs.pairs.items =
+    rw c.in_ok-pairs.ensures (named_pairs node.project c.args.members.now
+    (rw (ap (λ (d : DueNodes). d.project) c.self.view_is) c.requires.named)) in
+    let some : 0 < length (nodes_due c.self.inside.is_there node.pairs (reverse c.self.inside.later.items)) =
+    rw (ap (λ (d : DueNodes). d.nodes) c.self.view_is) c.requires.there in
+    split_along c.self.inside.is_there node (reverse c.self.inside.later.items) (reverse c.push_later.new.later.items)
+    c.depth-depth.result c.depth-depth.ensures some c.self.invariant
+    (c.push_later.ensures.nested node.project named)
 
 pub returns-clause-nodes : goal.returns-clause-nodes
 returns-clause-nodes c =

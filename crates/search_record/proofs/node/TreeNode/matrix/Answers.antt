@@ -16,5 +16,7 @@ returns-then-is_empty c =
 pub returns : goal.returns
 returns c =
     let some : 0 < length c.self.inside.dead.items = search rules in
-    let dead : IsInfeasible c.self.inside.project.now (c.self.inside.live.pairs ++ c.self.inside.dead.items) = dead_all c.self.inside.project.now c.self.inside.live.pairs c.self.inside.dead.items some c.self.invariant.dead in
+    let dead : IsInfeasible c.self.inside.project.now (c.self.inside.live.pairs ++ c.self.inside.dead.items) =
+    dead_all c.self.inside.project.now c.self.inside.live.pairs c.self.inside.dead.items some c.self.invariant.dead
+    in
     rw (ap (λ (n : Path). n.project) c.self.view_is, ap (λ (n : Path). n.pairs) c.self.view_is) at dead

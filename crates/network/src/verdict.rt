@@ -1,8 +1,8 @@
-//! What a right record proves.
+//! What is known of a project's least makespan.
 
-/// What a right record proves of its project. Makespans and bounds are in periods.
+/// What a search or a record proves of a project. Makespans and bounds are in periods.
 #[derive(Clone, Copy, PartialEq, Eq, Debug)]
-pub enum Proved {
+pub enum Verdict {
     /// The shortest feasible schedule takes so long.
     Optimal { makespan: i64 },
     /// No feasible schedule is shorter.

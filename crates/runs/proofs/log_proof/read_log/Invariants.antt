@@ -1,14 +1,14 @@
-use Rattle.std.proofs.Common.{◌≡◌, List, ℕ}
+use Rattle.std.proofs.Common.{◌≡◌, ◌++◌, List, ℕ}
 use Rattle.std.specs.Io.KnownBytes.{Consumes}
 use Rattle.lemma_record.specs.Reached.{HasChecked}
-use Rattle.runs.specs.LogOutcome.{part_in}
-use Rattle.runs.proofs.reading_log.read_log.Given as goal
+use Rattle.runs.specs.Verified.{part_in}
+use Rattle.runs.proofs.log_proof.read_log.Given as goal
 
 abbrev pub invariant-loop : goal.invariant-loop
 invariant-loop g l = record {
   front : List ℕ;
   given : Consumes (g.I.Input.left l.fn.input) (g.I.Input.left l.input) front;
-  read : HasChecked l.project front l.checker;
+  read : HasChecked l.project (l.head ++ front) l.checker;
   part : l.checker.part ≡ part_in l.scope;
   count : g.I.Input.failed l.input ≡ g.I.Input.failed l.fn.input;
 }
