@@ -26,6 +26,7 @@ def log(events: str) -> bytes:
 
 TWO, THREE, LAGS = project("two-jobs"), project("three-jobs-capacity-two"), project("three-jobs-lags")
 FORCED, DEAD, CYCLE = project("forced-order"), project("two-jobs-close-lags"), project("two-jobs-positive-cycle")
+WORKED, WORKED_LOG = of_logs("worked.sch"), of_logs("worked.log")
 STARTS, OVERLOADED = b"0 0\n1 0\n2 3\n3 7\n", b"0 0\n1 0\n2 2\n3 6\n"
 TWO_SOLVED = b"optimal 7\n0 0\n1 4\n2 0\n3 7\n"
 TWO_RECORD = b"record 1\noptimal 7\nstarts 0 4 0 7\nsplit 0 1 2\ncut\nsolved\n"
@@ -147,6 +148,9 @@ CALLS = [
     Call(VERIFY, DEAD_RECORD, DEAD, out=b"proved no schedule\n"),
     Call(VERIFY, LAGS_RECORD.replace(b"0 1 2\n", b"0 1 3\n"), LAGS, exit=4, fault=b"psmax: line 4: set\n"),
     Call(VERIFY, LAGS_RECORD.replace(b"cut\n", b""), LAGS, exit=2, fault=b"psmax: line 6: short\n"),
+    Call(VERIFY, WORKED_LOG, WORKED, out=b"proved optimal 8\n"),
+    Call(VERIFY, WORKED_LOG[:-1], WORKED, exit=4, fault=b"psmax: event 6: short\n"),
+    Call([*VERIFY, "--partial"], WORKED_LOG[:-1], WORKED, out=b"proved optimal 8\n"),
 ]
 
 
@@ -212,7 +216,6 @@ def in_cube(text: bytes, makespan: int | None, pieces: int = 0) -> Callable[[byt
 JSON = ["--json"]
 JOBS = ["--jobs", "4"]
 REPORTS = ["--progress", "json"]
-WORKED, WORKED_LOG = of_logs("worked.sch"), of_logs("worked.log")
 # After the schedule of 7 periods both jobs are to run within 6, and take 7.
 TWO_EVENTS: list[Event] = [Schedule([0, 0, 3, 7]), Lemma(0, [], [Push(Clique(0, 6, [1, 2]), None)]), Claim("optimal 7")]
 TWO_LOG, TWO_CUT = text_of(TWO_EVENTS), text_of(TWO_EVENTS[:1])
@@ -226,6 +229,8 @@ PROOFS = [
     Call(VERIFY, WORKED_LOG[:-1], WORKED, exit=4, fault=b"psprove: event 6: short\n"),
     Call([*VERIFY, "--partial"], WORKED_LOG[:-1], WORKED, out=b"proved optimal 8\n"),
     Call(VERIFY, WORKED_LOG, WORKED[:20], exit=2, fault=b"psprove: ends before word 10\n"),
+    Call(VERIFY, LAGS_RECORD, LAGS, out=b"proved optimal 5\n"),
+    Call(VERIFY, LAGS_RECORD.replace(b"0 1 2\n", b"0 1 3\n"), LAGS, exit=4, fault=b"psprove: line 4: set\n"),
     Call(SOLVE, DEAD, out=b"no schedule\n"),
     Call(SOLVE, CYCLE, out=b"no schedule\n"),
     Call(START, TWO, STARTS, out=b"optimal 7\n" + STARTS),

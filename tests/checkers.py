@@ -7,6 +7,7 @@ from types import ModuleType
 from typing import NamedTuple
 
 from harness import Ended
+from judges import is_tree
 
 
 class Checkers(NamedTuple):
@@ -14,10 +15,10 @@ class Checkers(NamedTuple):
     of_logs: ModuleType
 
     def said(self, program: str, project: bytes, record: bytes, partial: bool = False) -> Ended:
-        """What is said of a record, or of a log, in the words of the program of its kind. A checker that fails says so."""
+        """What is said of a record, in the words of a program. A checker that fails says so."""
         try:
             read = self.of_records.Project(project)
-            if program == "psmax":
+            if is_tree(program, record, partial):
                 out = self.of_records.verify(read, *self.of_records.read_record(record))
             else:
                 out = self.of_logs.verify(read, io.BytesIO(record), partial)

@@ -219,17 +219,17 @@ def no_files(calls: Calls) -> Tried:
 
 
 def endless_input(calls: Calls) -> Tried:
-    """A device that always has more bytes. No more is read than a text may have, as far as there is memory. Of a log of lemmas
-    one event is read, and all bytes of one to go on from."""
+    """A device that always has more bytes. No more is read than a text may have, as far as there is memory: psmax takes the
+    bytes for a tree. Of a log of lemmas one event is read, and all bytes of one to go on from."""
     def limit() -> None:
         resource.setrlimit(resource.RLIMIT_AS, (MOST_MEMORY, MOST_MEMORY))
 
     for call in filter(calls.reads_input, calls.each_options()):
         with Run(calls.program, call) as run, open("/dev/zero", "rb") as zeros:
             ended = run.ended(stdin=zeros, preexec_fn=limit)
-            is_log = calls.name == "psprove" and call.words[0] == "verify"
-            is_record = calls.name == "psmax" and call.words[0] == "verify"
-            said, status = ("out of memory", 1) if is_record else ("event 0: form", 4) if is_log else ("too long", 2)
+            is_tree = calls.name == "psmax" and "--partial" not in call.words
+            verified = ("out of memory", 1) if is_tree else ("event 0: form", 4)
+            said, status = verified if call.words[0] == "verify" else ("too long", 2)
             yield call, "endless input", calls.is_fault(ended, run, said, status), ended
     for call in calls.each_options():
         for name in call.files(*INPUTS):

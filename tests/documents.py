@@ -9,7 +9,9 @@ that `./psmax` and `./psprove` start.
 - Each file of the repository that a document names is there.
 - Each command of psmax, psprove, plan, make or a script that a document names is there, with its options.
 - Each definition in a ```antt block stands so in a file of specs.
-- The version in the head of a manual page, and that of the newest heading of CHANGELOG.md, is the package's.
+- The version in the head of a manual page, that of the newest heading of CHANGELOG.md, that of CITATION.cff and that of
+  the crates is the package's.
+- Help of psmax and of psprove has no name of a type.
 - The picture of docs/ARCHITECTURE.md has each crate of crates.txt.
 - Each command of a document of SHOWN is run as a user runs it, and prints what stands below it.
 
@@ -44,7 +46,10 @@ SECONDS = 60
 LINK = re.compile(r"\[((?:[^\[\]]|\[[^\]]*\])*)\]\(([^)\s]+)\)")
 SPAN = re.compile(r"`([^`\n]+)`")
 FENCE = re.compile(r"^```(\w*)\n(.*?)^```$", re.M | re.S)
-STATED = re.compile(r"^(?:\.TH .*?|## )(\d+\.\d+\.\d+)", re.M)
+STATED = re.compile(r"^(?:\.TH .*?|## |version: |pub const VERSION: &str = \")(\d+\.\d+\.\d+)", re.M)
+VERSIONED = ("docs/psmax.1", "docs/psprove.1", "docs/plan.1", "CHANGELOG.md", "CITATION.cff", "crates/answers/src/lib.rt")
+TYPE = re.compile(r"\b[A-Z][a-z]+[A-Z]\w*")
+NO_TYPES = {"MiB"}
 EXAMPLE = re.compile(r"^\.EX\n(.*?)^\.EE$", re.M | re.S)
 COMMAND = re.compile(r"^\$ (.*\n(?:> .*\n)*)", re.M)
 PROGRESS = re.compile(r"^ *\d+\.\d\d s  .*\n", re.M)
@@ -75,12 +80,15 @@ class Programs:
         status, out, _ = harness.ended([*start, self.paths[words[0]], *words[1:], "--help"])
         return out.decode() if status == 0 else None
 
+    def commands(self, name: str) -> list[str]:
+        """The commands that a program's help lists."""
+        return re.findall(r"^ {2,4}([a-z]+)  ", self.help(name) or "", re.M)
+
     @functools.cache
     def options(self) -> set[str]:
         """The options of all commands and scripts."""
         texts = [path.read_text() for path in files() if path.suffix in (".py", ".rt")]
-        commands = re.findall(r"^ {2,4}([a-z]+)  ", "".join(self.help(name) or "" for name in self.paths), re.M)
-        texts += [self.help(name, command) or "" for name in self.paths for command in commands]
+        texts += [self.help(name, command) or "" for name in self.paths for command in self.commands(name)]
         return {"--help", *OPTION.findall("".join(texts))}
 
     def fault_of(self, words: Sequence[str]) -> str | None:
@@ -159,10 +167,21 @@ def of_definitions(document: pathlib.Path, blocks: Blocks) -> Verdicts:
         yield verdict(document, any(definition in text for text in texts), f"no definition\n{definition}")
 
 
-def of_version(document: pathlib.Path) -> Verdicts:
-    """The first version that stands in a manual page's head or in a heading."""
-    if stated := STATED.search(document.read_text()):
-        yield verdict(document, stated[1] == __version__, f"version {stated[1]} is not the package's {__version__}")
+def of_versions() -> Verdicts:
+    """The first version that each of these files states."""
+    for document in (TOP / name for name in VERSIONED):
+        stated = STATED.search(document.read_text())
+        found = stated[1] if stated else "none"
+        yield verdict(document, found == __version__, f"version {found} is not the package's {__version__}")
+
+
+def of_help(programs: Programs) -> Verdicts:
+    names = ("psmax", "psprove")
+    for words in [(name,) for name in names] + [(name, command) for name in names for command in programs.commands(name)]:
+        told = programs.help(*words)
+        types = set(TYPE.findall(told or "")) - NO_TYPES
+        fault = f"names of types: {', '.join(sorted(types))}" if types else None
+        yield f"{' '.join(words)} --help", fault if told else "no help"
 
 
 def of_crates() -> Verdicts:
@@ -262,7 +281,6 @@ def of_document(document: pathlib.Path, programs: Programs) -> Verdicts:
     yield from of_files(document, prose)
     yield from of_commands(document, prose, blocks, programs)
     yield from of_definitions(document, blocks)
-    yield from of_version(document)
     if str(document.relative_to(TOP)) in SHOWN:
         yield from of_shown(document, blocks, programs)
 
@@ -273,6 +291,8 @@ def verdicts(words: Sequence[str]) -> Verdicts:
     programs = Programs(pathlib.Path(parser.parse_args(words).folder))
     for document in sorted(path for path in files() if path.suffix in (".md", ".1")):
         yield from of_document(document, programs)
+    yield from of_versions()
+    yield from of_help(programs)
     yield from of_crates()
 
 

@@ -3,10 +3,10 @@
 
 Makes N records (5,000 by default), the same for the same S: half are records of a search, half are logs of lemmas. They are
 of small projects of which all feasible schedules are known, by trying all starts. Some are right; others are damaged, have
-parts of other records, have lines that are wrong by one, or claim more than they prove. `verify` of the program of their
-kind and the checker in Python have to say the same of each, with the same place of the first fault. What they accept before
-that place has to be true of the schedules: a lemma of all in question, a node that is cut of all that are its own, and each
-starts, bound and claim. What is right has to be accepted.
+parts of other records, have lines that are wrong by one, or claim more than they prove. `verify` of one of the programs,
+which reads either kind, and the checker in Python of the record's kind have to say the same of each, with the same place of
+the first fault. What they accept before that place has to be true of the schedules: a lemma of all in question, a node that
+is cut of all that are its own, and each starts, bound and claim. What is right has to be accepted.
 
 With --only record K alone is made. Each record of which something wrong is said stands in the FOLDER of --keep, with its
 project. The checkers in Python are those of the folder of --checkers, of tests/ by default. The last line counts the
@@ -39,7 +39,8 @@ from checkers import Checkers, loaded
 from harness import TOP, Ended, Verdict, Verdicts
 from verify_log import Event, Ledger
 
-EACH = 40  # records of a project, of which half are logs
+EACH = 40  # records of a project, of which half are logs; half of these and of the others are judged by either program
+PROGRAMS = "psmax", "psprove"
 MOST = 1_200  # feasible schedules of a project
 PLACE = re.compile(rb"ps\w+: (line|event) (\d+): (\w+)\n")
 FALSE = "it is false: "
@@ -169,11 +170,12 @@ class Judge(NamedTuple):
     psprove: str
     checkers: Checkers
 
-    def said(self, known: Known, file: Path, record: bytes, is_log: bool, partial: bool) -> tuple[Ended, str | None]:
-        """What is said of a record, and what is wrong with that, or None."""
-        name, program = ("psprove", self.psprove) if is_log else ("psmax", self.psmax)
+    def said(self, known: Known, file: Path, record: bytes, name: str, partial: bool) -> tuple[Ended, str | None]:
+        """What the program of this name says of a record, and what is wrong with that, or None."""
+        program = self.psmax if name == "psmax" else self.psprove
         by_script = self.checkers.said(name, known.drawn.text(), record, partial)
         by_program = judges.by_program(program, file, record, partial)
+        is_log = not judges.is_tree(name, record, partial)
         found = [] if by_program == by_script else [f"the program says {by_program}, the script {by_script}"]
         for said in sorted({by_program, by_script}, key=str):
             false = falsehood_of(known.schedules, record, is_log, said)
@@ -230,11 +232,13 @@ class Fuzzer(NamedTuple):
         for number, (what, record) in enumerate(self.some(makers), which * EACH):
             is_log, partial = number % 2 == 1, number % 6 == 5
             if self.is_wanted(number):
-                said, wrong = self.judge.said(drawn, file, record, is_log, partial)
+                program = PROGRAMS[number // 2 % 2]
+                said, wrong = self.judge.said(drawn, file, record, program, partial)
                 if what == RIGHT and said[0] != 0:
                     wrong = f"it is right; {said} {wrong or ''}"
                 self.ends["log" if is_log else "record", end_of(said)] += 1
-                name = f"record {number} of seed {self.seed}, {'a log' if is_log else 'of a search'}, {what}"
+                kind = "a log" if is_log else "of a search"
+                name = f"record {number} of seed {self.seed}, {kind}, {what}, by {program}"
                 self.told(name, drawn, number, record, wrong)
                 found.append((name, wrong))
         return found

@@ -99,7 +99,7 @@ Script = tuple[str, Callable[[Sequence[str]], Verdicts], list[str]]  # a name, t
 
 
 def scripts(folder: pathlib.Path, with_tests: bool) -> Iterator[Script]:
-    """The scripts. Growths are refused by a library, which a C compiler makes."""
+    """The scripts. Allocations are refused by a library, which a C compiler makes."""
     psmax, psprove, book_events = (str(folder / name) for name in PROGRAMS)
     yield "cases", run.verdicts, [psmax]
     yield "cases of psprove", run.verdicts, [psprove, "--cases", str(TOP / "tests" / "proofs.jsonl")]

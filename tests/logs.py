@@ -29,7 +29,8 @@ from log_damages import damaged
 
 EACH = 20  # logs made of one that is right
 SMALL = 3_000  # bytes of a log of the folder that is damaged
-FAULT = re.compile(rb"psprove: event \d+: (form|long|short|trailing|lemma|drop|schedule|claim)\n")
+FAULT = re.compile(rb"psprove: (event \d+: (form|long|short|trailing|lemma|drop|schedule|claim)|"
+                   rb"line \d+: (form|short|trailing|start|force|set|leaf))\n")  # of lines where a damage made it a tree
 
 
 class Whole(NamedTuple):

@@ -37,7 +37,7 @@ class Recorded:
         by_program = judges.by_program(self.program, self.path, record)
         by_script = judges.by_script(self.project, record)
         if by_program != by_script:
-            return f"psmax says {by_program}, verify.py {by_script}"
+            return f"psmax says {by_program}, the script {by_script}"
         if by_program[0] == 0 and by_program[1] != self.verdict:
             return f"{by_program[1]!r} is proved, not {self.verdict!r}"
         return None

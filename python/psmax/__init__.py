@@ -7,7 +7,7 @@ from .record import Proof, Record
 from .whatif import ChangeKind
 from .work_time import WorkTime
 
-__version__ = "0.9.0"  # CONTRIBUTING.md says where else it is spelled
+__version__ = "1.0.0"  # CONTRIBUTING.md says where else it is spelled
 
 __all__ = ["Absence", "Activity", "Answer", "BadInput", "ChangeKind", "Changed", "Checked", "Failed", "Fault", "Float", "Lag",
            "Point", "Progress", "Project", "Proof", "Record", "Resource", "Schedule", "Span", "Status", "Violation",
