@@ -23,7 +23,7 @@ from harness import Ended, Verdict, Verdicts
 PROJECT, OPTIMUM = networks.project(100, 1, 0).text(), 285  # takes some thousand conflicts
 CONFLICTS = "2000"  # a record of more than 100,000 bytes with one job
 ROOMS = (0, 1, 100, 4_096, 50_000)
-MEMORIES = [mib << 20 for mib in (4, 5, 6, 8, 16, 32, 64, 96, 128, 160)]
+MEMORIES = [mib << 20 for mib in (5, 6, 8, 16, 32, 64, 96, 128, 160)]  # in 4 there is no room for the stack
 OLD = b"an older record\n"
 
 
