@@ -5,7 +5,7 @@ use crate::marks::NO_VALUE;
 use crate::state::Engine;
 use crate::{Inference, LineReason};
 use instance::{Result, narrow};
-use propagation::{Conflict, Literal, NEVER, Reason};
+use propagation::{Conflict, Literal, Reason};
 use std::cmp::Reverse;
 use std::mem;
 
@@ -31,10 +31,9 @@ const DEPTH: usize = 60;
 pub(crate) struct Frame {
     event: u32,
     link: Inference,
-    /// Where its literals stand, of which those from `next` on are still to be looked at.
+    /// Its literals are the last ones found, from here on; those from `next` on are still to be looked at.
     from: u32,
     next: u32,
-    to: u32,
 }
 
 impl Engine<'_> {
@@ -61,9 +60,7 @@ impl Engine<'_> {
         }
         let point = self.resolve(top)?;
         let first = self.minimise(point, top)?;
-        let (literal, reason) = (NEVER, end);
-        self.marks.replace(u32::MAX, Inference { literal, reason })?;
-        self.marks.end();
+        self.marks.end(end)?;
         let (mut level, lbd) = self.put_in_order(first)?;
         let mut number = 0;
         if self.marks.nogood.len() > LONGEST {
@@ -159,13 +156,7 @@ impl Engine<'_> {
             link: Inference { literal, reason },
             from,
             next: from,
-            to: self.marks.found.count(),
         })
-    }
-
-    /// Whether a value of an event has to be in the nogood as far as is known: it is a decision, or was looked at.
-    fn is_blocked(&self, event: u32, value: i32) -> bool {
-        self.trail.event(event).reason == Reason::Decision || self.marks.is_hard(event, value)
     }
 
     /// Whether what a needed value of an event follows from is in the nogood already.
@@ -173,7 +164,7 @@ impl Engine<'_> {
         if self.trail.event(event).reason == Reason::Decision {
             return Ok(false);
         }
-        let mut frames = mem::replace(&mut self.marks.frames, Vec::new(self.alloc));
+        let mut frames = mem::replace(&mut self.marks.frames, Vec::new(self.instance.alloc));
         frames.clear();
         let first = self.frame(event, value)?;
         frames.push(first)?;
@@ -189,7 +180,7 @@ impl Engine<'_> {
             let Some(frame) = frames.last().copied() else {
                 break;
             };
-            if frame.next >= frame.to {
+            if frame.next >= self.marks.found.count() {
                 self.marks.found.truncate(frame.from);
                 self.marks
                     .note(frame.event, frame.link.literal.value, true)?;
@@ -205,7 +196,8 @@ impl Engine<'_> {
             if self.trail.event(cause).level == 0 || self.marks.has(cause, literal.value) {
                 continue;
             }
-            if frames.len() >= DEPTH || self.is_blocked(cause, literal.value) {
+            let is_decision = self.trail.event(cause).reason == Reason::Decision;
+            if is_decision || frames.len() >= DEPTH || self.marks.is_hard(cause, literal.value) {
                 self.note_hard(frames)?;
                 return Ok(false);
             }
@@ -238,7 +230,7 @@ impl Engine<'_> {
         self.keep_greatest(first);
         let literals = self.marks.nogood.iter();
         let levels = literals.map(|literal| self.trail.level_of(*literal));
-        let mut levels: Vec<u32> = levels.collect(self.alloc)?;
+        let mut levels: Vec<u32> = levels.collect(self.instance.alloc)?;
         let level = levels.iter().copied().max().unwrap_or(0);
         let second = levels.iter().position(|here| *here == level).unwrap_or(0);
         self.marks.nogood.insert(0, first)?;

@@ -180,12 +180,12 @@ impl Choices {
 
     /// The open literal of greatest weight, as its variable's saved value says.
     fn heaviest(&mut self, trail: &Trail) -> Result<Option<Literal>> {
-        let Some(number) = self.take_open(trail)? else {
-            return Ok(None);
-        };
-        let literal = self.literals[number];
-        let is_saved = self.saved[literal.variable()] >= literal.value;
-        Ok(Some(if is_saved { literal } else { !literal }))
+        let number = self.take_open(trail)?;
+        Ok(number.map(|number| {
+            let literal = self.literals[number];
+            let is_saved = self.saved[literal.variable()] >= literal.value;
+            if is_saved { literal } else { !literal }
+        }))
     }
 
     /// The open literals of greatest weight with that weight, so many at most, at a level of their own. If none has a weight,
@@ -213,10 +213,8 @@ impl Choices {
     /// The literal to try next, at a level that begins with it; none where all is settled.
     pub(crate) fn next(&mut self, trail: &Trail, edges: &Edges) -> Result<Option<Literal>> {
         self.begin_level()?;
-        let mut found = self.heaviest(trail)?;
-        if found.is_none() {
-            found = self.next_start(trail, edges);
-        }
+        let heaviest = self.heaviest(trail)?;
+        let found = heaviest.or_else(|| self.next_start(trail, edges));
         if found.is_none() {
             self.levels.items.pop();
         }
@@ -226,24 +224,18 @@ impl Choices {
     /// The next open activity of the sequence starts as early as it can. Where orders decide all, the one that can be
     /// earliest comes before its earliest rival.
     fn next_start(&self, trail: &Trail, edges: &Edges) -> Option<Literal> {
-        let least = |activity: u32| trail.least(activity);
+        let (least, greatest) = (|of: u32| trail.least(of), |of: u32| trail.greatest(of));
         let starts = self.sequence.iter().copied();
-        let mut open = starts.filter(|activity: &u32| trail.least(*activity)
-            < trail.greatest(*activity));
+        let mut open = starts.filter(|activity: &u32| least(*activity) < greatest(*activity));
         if !self.only_orders {
             let activity = open.next()?;
             return Some(Literal::at_most(activity, least(activity)));
         }
-        let activity = open.min_by_key(|activity: &u32| (
-            trail.least(*activity),
-            trail.greatest(*activity),
-        ))?;
+        let activity = open.min_by_key(|activity: &u32| (least(*activity), greatest(*activity)))?;
         let before = |other: u32| edges.precedence(activity, other).unwrap_or(NEVER);
         let rivals = (0..narrow(self.sequence.len())).filter(|other| trail.is_open(before(*other)));
-        match rivals.min_by_key(|other| least(*other)) {
-            Some(rival) => Some(before(rival)),
-            None => Some(Literal::at_most(activity, least(activity))),
-        }
+        let rival = rivals.min_by_key(|other| least(*other));
+        Some(rival.map_or(Literal::at_most(activity, least(activity)), before))
     }
 
     /// The values of a schedule are tried first. Where nothing has a weight, activities are started in its order.

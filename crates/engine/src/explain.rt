@@ -21,21 +21,21 @@ impl Engine<'_> {
         self.marks.found.items.extend_from_slice(&literals)
     }
 
-    /// The event by which two literals hold.
-    fn last_event_of(&self, first: Literal, second: Literal) -> u32 {
-        self.trail.event_of(first).max(self.trail.event_of(second))
-    }
-
-    /// An activity is among the causes, with an amount, by its last event, if that was before `now`. Gives the amount.
-    fn note_cause(&mut self, last: u32, now: u32, amount: i32, activity: u32) -> Result<i32> {
+    /// An activity is among the causes, with an amount, if its literals held before `now`. Gives the amount.
+    fn note_cause(
+        &mut self,
+        activity: u32,
+        amount: i32,
+        literals: [Literal; 2],
+        now: u32,
+    ) -> Result<i32> {
+        let [first, second] = literals;
+        let last = self.trail.event_of(first).max(self.trail.event_of(second));
         if last >= now {
             return Ok(0);
         }
-        let event = if last < self.trail.root_end() {
-            0
-        } else {
-            last
-        };
+        let is_root = last < self.trail.root_end();
+        let event = if is_root { 0 } else { last };
         self.marks.causes.push((event, amount, activity))?;
         Ok(amount)
     }
@@ -47,7 +47,7 @@ impl Engine<'_> {
             Conflict::Forced { literal, reason } => {
                 // As little as contradicts the bound that is there.
                 let least = 1i32.wrapping_sub(self.trail.values()[literal.slot ^ 1]);
-                let literal = literal.with(literal.value.min(least));
+                let literal = Literal::new(literal.slot, literal.value.min(least));
                 self.marks.found.push(!literal)?;
                 self.explain(literal, reason, now)
             }
@@ -78,32 +78,29 @@ impl Engine<'_> {
         now: u32,
     ) -> Result<LineReason> {
         match why {
-            Reason::Decision | Reason::Given => {}
-            Reason::Lemma { place } => return self.explain_lemma(place, 1),
+            Reason::Decision | Reason::Given => Ok(LineReason::Arcs),
+            Reason::Lemma { place } => self.explain_lemma(place, 1),
             Reason::Arc { arc } => {
-                let arc = self.edges.arcs[arc];
+                let arc = self.edges.arcs.values[arc];
                 let value = literal.value.wrapping_sub(arc.weight);
                 self.marks.found.push(Literal::new(arc.from, value))?;
+                Ok(LineReason::Arcs)
             }
             Reason::Order { order } => {
-                let order = self.edges.orders[order];
+                let order = self.edges.orders.values[order];
                 let value = literal.value.wrapping_sub(order.arc.weight);
                 self.find([order.literal, Literal::new(order.arc.from, value)])?;
+                Ok(LineReason::Arcs)
             }
-            Reason::Lost { order } => return self.explain_lost(order, now),
-            Reason::Pushed { clique, time } => {
-                return self.explain_push(literal, clique, time, now);
-            }
-            Reason::Full { resource, time } => {
-                return self.explain_full(literal, resource, time, now);
-            }
+            Reason::Lost { order } => self.explain_lost(order, now),
+            Reason::Pushed { clique, time } => self.explain_push(literal, clique, time, now),
+            Reason::Full { resource, time } => self.explain_full(literal, resource, time, now),
         }
-        Ok(LineReason::Arcs)
     }
 
     /// The bound from which an order leads and the one that it would pass: of the first only as much as contradicts.
     fn explain_lost(&mut self, order: u32, now: u32) -> Result<LineReason> {
-        let arc = self.edges.orders[order].arc;
+        let arc = self.edges.orders.values[order].arc;
         let slot = arc.to ^ 1;
         let passed = self.trail.value_at(slot, now);
         let value = 1i32.wrapping_sub(arc.weight).wrapping_sub(passed);
@@ -129,14 +126,13 @@ impl Engine<'_> {
         }
         self.marks.causes.items.clear();
         let running = &mut self.marks.activities.items;
-        self.table.list_running(time, running)?;
+        self.table.profile.list_running(time, running)?;
         for at in 0..self.marks.activities.count() {
             let activity = self.marks.activities[at];
             let demand = self.instance.demand(activity, resource);
             if demand > 0 && own.variable() != activity {
-                let [least, greatest] = self.inside(activity, 1, from, to);
-                let last = self.last_event_of(least, greatest);
-                let less = self.note_cause(last, now, demand.wrapping_neg(), activity)?;
+                let literals = self.inside(activity, 1, from, to);
+                let less = self.note_cause(activity, demand.wrapping_neg(), literals, now)?;
                 sum = sum.wrapping_sub(less);
             }
         }
@@ -179,9 +175,8 @@ impl Engine<'_> {
             let part = part(least, greatest, self.instance.durations[activity], from, to);
             let demand = self.instance.demand(activity, resource);
             if part > 0 && demand > 0 {
-                let [least, greatest] = self.inside(activity, part, from, to);
-                let last = self.last_event_of(least, greatest);
-                self.note_cause(last, u32::MAX, part, activity)?;
+                let literals = self.inside(activity, part, from, to);
+                self.note_cause(activity, part, literals, u32::MAX)?;
                 spare = spare.wrapping_add(i64::from(part).wrapping_mul(i64::from(demand)));
             }
         }
@@ -226,16 +221,14 @@ impl Engine<'_> {
         let mut sum = 0i32;
         self.marks.causes.items.clear();
         for at in self.cliques.members.numbers(clique) {
-            let other = self.cliques.members[at];
+            let other = self.cliques.members.values[at];
             let (order, bound) = self.pushes(other, literal, time);
             let order = order.unwrap_or(bound);
             let pushes = self.trail.holds(order) && self.trail.holds(bound);
             if pushes && other != literal.variable() {
-                let (last, duration) = (
-                    self.last_event_of(order, bound),
-                    self.instance.durations[other],
-                );
-                sum = sum.wrapping_add(self.note_cause(last, now, duration, other)?);
+                let duration = self.instance.durations[other];
+                let added = self.note_cause(other, duration, [order, bound], now)?;
+                sum = sum.wrapping_add(added);
             }
         }
         Ok(sum)
@@ -285,12 +278,12 @@ impl Engine<'_> {
         let mut sum = 0i32;
         self.marks.causes.items.clear();
         for at in self.cliques.members.numbers(clique) {
-            let activity = self.cliques.members[at];
+            let activity = self.cliques.members.values[at];
             let duration = self.instance.durations[activity];
-            let [least, greatest] = self.inside(activity, duration, from, to);
-            if self.trail.holds(least) && self.trail.holds(greatest) {
-                let last = self.last_event_of(least, greatest);
-                sum = sum.wrapping_add(self.note_cause(last, u32::MAX, duration, activity)?);
+            let literals = self.inside(activity, duration, from, to);
+            if literals.iter().all(|literal| self.trail.holds(*literal)) {
+                let added = self.note_cause(activity, duration, literals, u32::MAX)?;
+                sum = sum.wrapping_add(added);
             }
         }
         Ok(sum)

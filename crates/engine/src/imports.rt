@@ -24,7 +24,7 @@ const PATIENCE: u64 = 500;
 
 impl Engine<'_> {
     /// The literal of an arc: a bound of a start, or the order of two activities. None if it always holds.
-    fn literal_of(&self, arc: Lag) -> Option<Literal> {
+    pub(crate) fn literal_of(&self, arc: Lag) -> Option<Literal> {
         let (from, to) = (narrow(arc.from), narrow(arc.to));
         let weight = arc.weight.clamp(i64::from(i32::MIN), i64::from(i32::MAX)) as i32;
         match (from, to) {
@@ -38,7 +38,7 @@ impl Engine<'_> {
     /// looked at when the search is at the root next.
     pub fn import(&mut self, number: u32, lbd: u32, arcs: &[Lag]) -> Result<()> {
         let literals = arcs.iter().filter_map(|arc| self.literal_of(*arc));
-        let nogood = literals.collect(self.alloc)?;
+        let nogood = literals.collect(self.instance.alloc)?;
         self.log.import(number)?;
         self.imports.push(Import::Lemma {
             number,
@@ -81,7 +81,7 @@ impl Engine<'_> {
             return Ok(());
         }
         let open = nogood.iter().filter(|literal| !self.trail.holds(**literal));
-        let mut open: Vec<Literal> = open.map(|literal| !*literal).collect(self.alloc)?;
+        let mut open: Vec<Literal> = open.map(|literal| !*literal).collect(self.instance.alloc)?;
         let (count, first) = (open.len(), open.first().copied().unwrap_or(NEVER));
         open.extend((count..2).map(|_| NEVER))?;
         let place = self.lemmas.learn(&open, lbd, number)?;
@@ -94,7 +94,7 @@ impl Engine<'_> {
 
     /// Looks at all imports, at the root. The next reduction comes earlier, as if each second one were a conflict.
     pub(crate) fn admit_all(&mut self) -> Result<(), Stop> {
-        let imports = mem::replace(&mut self.imports, Vec::new(self.alloc));
+        let imports = mem::replace(&mut self.imports, Vec::new(self.instance.alloc));
         self.reduction = self.reduction.saturating_sub(imports.len() as u64 / 2);
         self.looked = self.counts.conflicts;
         for import in &imports {

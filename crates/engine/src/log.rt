@@ -1,15 +1,35 @@
 //! The log of a proof.
 
-use crate::reason::{Inference, LineReason};
 use instance::{Edge, Instance, Result, Rivals, Rows};
 use lemma_log::{Event, Lines};
 use lemma_proof::{Lags, Line, WindowOverload};
 use network::{Lag, Pair};
 use propagation::{Literal, NEVER};
 use record_text::Members;
-use std::alloc::Global;
 use std::collections::BTreeSet;
 use std::mem;
+
+/// Why a literal follows from others, or why literals contradict each other. Times are in periods.
+#[derive(Clone, Copy, PartialEq, Eq, Debug)]
+pub enum LineReason {
+    /// By lags and orders alone.
+    Arcs,
+    /// The other order of two rivals does not fit.
+    Force,
+    /// By the lemma of a number.
+    Use { lemma: u32 },
+    /// What must run from one time to another needs too much of a resource.
+    Load { resource: u32, from: i32, to: i32 },
+    /// The members of a clique, a set that the log keeps, need more time than there is from one time to another.
+    Clique { members: u32, from: i32, to: i32 },
+}
+
+/// A literal, and why it follows.
+#[derive(Clone, Copy, PartialEq, Eq, Debug)]
+pub struct Inference {
+    pub literal: Literal,
+    pub reason: LineReason,
+}
 
 /// The slots of a record that the lemmas of a search go to: every `jobs`-th one, from `job` on.
 #[derive(Clone, Copy, PartialEq, Eq, Debug)]
@@ -18,15 +38,6 @@ pub struct Slots {
     pub jobs: u32,
     /// How many slots of the record are taken at first.
     pub taken: u32,
-}
-
-impl Slots {
-    /// How many of the search's own are taken at first.
-    fn taken_of_own(self) -> u32 {
-        let others = self.jobs.saturating_sub(1);
-        let taken = self.taken.saturating_add(others);
-        taken.checked_div(self.jobs).unwrap_or(0)
-    }
 }
 
 /// An event, and of how many levels the literals of its lemma are (the LBD of Audemard and Simon 2009).
@@ -40,10 +51,9 @@ pub struct LoggedEvent {
 /// record, so that searches know each other's.
 #[derive(Drop)]
 pub struct Log<'a> {
-    alloc: Global,
     instance: &'a Instance,
     /// The order of `pairs[k]` is the variable after the activities and k others.
-    pairs: Vec<Rivals>,
+    pub(crate) pairs: Vec<Rivals>,
     /// Whether events are kept.
     pub is_kept: bool,
     told: Vec<LoggedEvent>,
@@ -91,8 +101,10 @@ impl<'a> Log<'a> {
         slots: Slots,
     ) -> Result<Log<'a>> {
         let alloc = instance.alloc;
+        // How many of its own slots are taken at first.
+        let taken = slots.taken.saturating_add(slots.jobs.saturating_sub(1));
+        let count = taken.checked_div(slots.jobs).unwrap_or(0);
         Ok(Log {
-            alloc,
             instance,
             pairs: Vec::from_slice(alloc, pairs)?,
             is_kept,
@@ -101,7 +113,7 @@ impl<'a> Log<'a> {
             slots,
             used: BTreeSet::new(alloc),
             forgotten: BTreeSet::new(alloc),
-            count: slots.taken_of_own(),
+            count,
             free: Vec::new(alloc),
         })
     }
@@ -161,7 +173,7 @@ impl<'a> Log<'a> {
                 WindowOverload::Clique {
                     from: i64::from(from),
                     to: i64::from(to),
-                    members: Members::new(members.collect(self.alloc)?),
+                    members: Members::new(members.collect(self.instance.alloc)?),
                 }
             }
         };
@@ -183,10 +195,8 @@ impl<'a> Log<'a> {
 
     /// A lemma of one arc, which always holds, or of none.
     fn tell_root(&mut self, reason: LineReason, edge: Option<Edge>) -> Result<()> {
-        let (mut arcs, mut lines) = (Vec::new(self.alloc), Vec::new(self.alloc));
-        if let Some(edge) = edge {
-            arcs.push(reverse(lag(edge)))?;
-        }
+        let (mut arcs, mut lines) = (Vec::new(self.instance.alloc), Vec::new(self.instance.alloc));
+        arcs.extend(edge.map(|edge| reverse(lag(edge))))?;
         self.put(&mut lines, reason, edge)?;
         match self.is_kept {
             true => self.tell(0, 0, arcs, lines),
@@ -214,10 +224,8 @@ impl<'a> Log<'a> {
 
     /// A number that no lemma has.
     fn number(&mut self) -> Result<u32> {
-        let next = self
-            .count
-            .wrapping_mul(self.slots.jobs)
-            .wrapping_add(self.slots.job);
+        let Slots { job, jobs, .. } = self.slots;
+        let next = self.count.wrapping_mul(jobs).wrapping_add(job);
         let number = self.free.pop().unwrap_or(next);
         self.count = self.count.wrapping_add(u32::from(number == next));
         self.used.insert(number)?;
@@ -240,7 +248,7 @@ impl<'a> Log<'a> {
             0 | 1 => 0,
             _ => self.number()?,
         };
-        let (mut arcs, mut lines) = (Vec::new(self.alloc), Vec::new(self.alloc));
+        let (mut arcs, mut lines) = (Vec::new(self.instance.alloc), Vec::new(self.instance.alloc));
         for literal in nogood {
             arcs.push(self.supposed(*literal))?;
             if self.order_of(*literal).is_some() {
@@ -275,7 +283,7 @@ impl<'a> Log<'a> {
 
     /// All lemmas are forgotten.
     pub fn forget_all(&mut self) -> Result<()> {
-        let used: Vec<u32> = self.used.iter().copied().collect(self.alloc)?;
+        let used: Vec<u32> = self.used.iter().copied().collect(self.instance.alloc)?;
         for number in &used {
             self.forget(*number)?;
         }
@@ -300,7 +308,7 @@ impl<'a> Log<'a> {
 
     /// Hands on the events.
     pub fn take(&mut self) -> Vec<LoggedEvent> {
-        self.sets = Rows::new(self.alloc, 0);
-        mem::replace(&mut self.told, Vec::new(self.alloc))
+        self.sets = Rows::new(self.instance.alloc, 0);
+        mem::replace(&mut self.told, Vec::new(self.instance.alloc))
     }
 }

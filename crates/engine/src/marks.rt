@@ -72,8 +72,11 @@ impl Marks {
         Ok(())
     }
 
-    /// Takes all notes of events back. What was replaced goes from the first event to the last.
-    pub(crate) fn end(&mut self) {
+    /// Takes all notes of events back. What was replaced goes from the first event to the last, and then comes why the
+    /// rest contradict each other.
+    pub(crate) fn end(&mut self, reason: LineReason) -> Result<()> {
+        let literal = NEVER;
+        self.replace(u32::MAX, Inference { literal, reason })?;
         let key = |replaced: &(u32, Inference)| (replaced.0, replaced.1.literal);
         self.replaced.sort_unstable_by_key(key);
         for event in &self.needed.items {
@@ -83,6 +86,7 @@ impl Marks {
             self.gone[*event] = NO_VALUE;
             self.hard[*event] = i32::MAX;
         }
+        Ok(())
     }
 
     /// Notes that a value of an event is needed. Whether nothing of it was.

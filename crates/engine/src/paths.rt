@@ -32,13 +32,17 @@ fn contradict(a: Literal, b: Literal) -> bool {
 }
 
 impl Engine<'_> {
-    /// What an arc between activities says of their order. It is to say no less than that the second does not end before
+    /// What an arc is to this search. One between activities is to say no less than that the second does not end before
     /// the first one starts.
-    fn order_side(&self, from: u32, to: u32, weight: i64) -> Side {
-        if weight <= i64::from(self.instance.durations[to]).wrapping_neg() {
+    fn side(&self, arc: Lag) -> Side {
+        let (from, to, count) = (narrow(arc.from), narrow(arc.to), self.instance.count());
+        let is_wide = i32::try_from(arc.weight).is_err();
+        if is_wide || from >= count || to >= count || from == to {
             return Side::Other;
         }
-        match self.edges.precedence(from, to) {
+        let least = i64::from(self.instance.durations[to]).wrapping_neg();
+        match self.literal_of(arc) {
+            _ if from != 0 && to != 0 && arc.weight <= least => Side::Other,
             None => Side::Holds,
             Some(NEVER) if self.edges.precedence(to, from).is_none() => Side::Fails,
             Some(NEVER) => Side::Other,
@@ -46,30 +50,12 @@ impl Engine<'_> {
         }
     }
 
-    /// What an arc is to this search.
-    fn side(&self, arc: Lag) -> Side {
-        let (from, to) = (narrow(arc.from), narrow(arc.to));
-        let count = self.instance.count();
-        let Ok(weight) = i32::try_from(arc.weight) else {
-            return Side::Other;
-        };
-        if from >= count || to >= count || from == to {
-            return Side::Other;
-        }
-        let decision = match (from, to) {
-            (0, _) => Literal::at_least(to, weight),
-            (_, 0) => Literal::at_most(from, weight.wrapping_neg()),
-            _ => return self.order_side(from, to, arc.weight),
-        };
-        Side::Decision(decision)
-    }
-
     /// The first decisions of a path.
     pub fn path(&self, arcs: &[Lag]) -> Result<Path> {
         if self.is_refuted {
             return Ok(Path::Refuted);
         }
-        let mut decisions: Vec<Literal> = Vec::new(self.alloc);
+        let mut decisions: Vec<Literal> = Vec::new(self.instance.alloc);
         for (place, arc) in arcs.iter().enumerate() {
             match self.side(*arc) {
                 Side::Holds => {}
@@ -104,9 +90,7 @@ impl Engine<'_> {
             self.marks.replace(event, Inference { literal, reason })?;
             self.note_found(1)?;
         }
-        let literal = NEVER;
-        self.marks.replace(u32::MAX, Inference { literal, reason })?;
-        self.marks.end();
+        self.marks.end(reason)?;
         self.keep_greatest(NEVER);
         let (nogood, replaced) = (&self.marks.nogood, &self.marks.replaced);
         self.log.lemma(nogood, narrow(nogood.len()), replaced)?;

@@ -2,11 +2,48 @@
 
 use crate::LineReason;
 use crate::analysis::Learnt;
-use crate::pace::Pace;
 use crate::state::Engine;
 use instance::Result;
 use propagation::{Conflict, Literal, Reason, Stop, find_overloads};
 use std::alloc::AllocError;
+
+/// So many conflicts come before a restart at least.
+const LEAST: u64 = 100;
+
+/// The memory of the two means, in conflicts.
+const FAST: f64 = 32.0;
+
+const SLOW: u64 = 10_000;
+
+/// How much of the latest mean still must be above the long one.
+const MARGIN: f64 = 0.7;
+
+/// When to start again: where lemmas of late have more levels than they used to have (Audemard and Simon 2012).
+#[derive(Clone, Copy, Default)]
+pub struct Pace {
+    fast: f64,
+    slow: f64,
+    /// Conflicts since the last start, and all.
+    here: u64,
+    all: u64,
+}
+
+impl Pace {
+    /// A conflict gave a lemma of so many levels.
+    fn note(&mut self, lbd: u32) {
+        let lbd = f64::from(lbd.min(1_000_000) as i32);
+        self.here = self.here.wrapping_add(1);
+        self.all = self.all.wrapping_add(1);
+        self.fast = self.fast + (lbd - self.fast) / FAST;
+        let count = self.all.clamp(1, SLOW) as i32;
+        self.slow = self.slow + (lbd - self.slow) / f64::from(count);
+    }
+
+    /// Whether it is time to start again.
+    fn is_due(&self) -> bool {
+        self.here >= LEAST && self.fast * MARGIN > self.slow
+    }
+}
 
 /// What a search for schedules under first decisions found.
 #[derive(Clone, Copy, PartialEq, Eq, Debug)]
@@ -53,14 +90,12 @@ impl Engine<'_> {
         first.retain(|literal: &Literal| !self.trail.holds(*literal));
         self.floor = u32::from(first.len() > 1);
         self.has_path = false;
-        let mut run = Subsearch {
+        Ok(Subsearch {
             first,
             conflict: conflict_of(self.settle_root())?,
             last: self.counts.conflicts.saturating_add(most),
-            pace,
-        };
-        run.pace.start();
-        Ok(run)
+            pace: Pace { here: 0, ..pace },
+        })
     }
 
     /// A search under a path begins, at the root. Where there is no schedule, the last lemma says so of decisions of the
@@ -155,14 +190,12 @@ impl Engine<'_> {
         if !is_due && !pace.is_due() && !self.has_late_imports() {
             return Ok(());
         }
-        pace.start();
+        pace.here = 0;
         if is_due {
-            self.reduce()
-        } else if self.imports.is_empty() {
-            self.go_back(self.floor)
-        } else {
-            self.go_back(0)
+            return self.reduce();
         }
+        let has_imports = !self.imports.is_empty();
+        self.go_back(if has_imports { 0 } else { self.floor })
     }
 
     /// Forgets what did little.
@@ -208,7 +241,7 @@ impl Engine<'_> {
         let end = self.instance.end();
         let before = self.instance.entering.row(end).iter();
         let starts = (0..end).map(|activity| self.trail.least(activity));
-        let mut starts: Vec<i32> = starts.collect(self.alloc)?;
+        let mut starts: Vec<i32> = starts.collect(self.instance.alloc)?;
         let inner = before.filter(|edge| edge.from != end);
         let ends = inner.map(|edge| self.trail.least(edge.from).wrapping_add(edge.weight));
         starts.push(ends.max().unwrap_or(0))?;
@@ -237,7 +270,6 @@ impl Engine<'_> {
 
     /// The values of a schedule are tried first. Where nothing else says so, activities are started in its order.
     pub fn prefer(&mut self, starts: &[i32]) {
-        let pairs = &self.edges.pairs;
-        self.choices.prefer(self.instance, starts, pairs);
+        self.choices.prefer(self.instance, starts, &self.log.pairs);
     }
 }

@@ -27,20 +27,18 @@ struct Leaf {
     left: u32,
 }
 
-/// The best split of a leaf: the literal, and what each side leaves.
+/// The best split of a leaf: the literal of each side, and what it leaves.
 #[derive(Clone, Copy)]
 struct Split {
-    literal: Literal,
-    left: [u32; 2],
+    sides: [(Literal, u32); 2],
     score: f64,
 }
 
 /// The place of the leaf that leaves most.
 fn widest(leaves: &[Leaf]) -> Option<usize> {
     let places = leaves.iter().enumerate().filter(|(_, leaf)| leaf.left > 0);
-    places
-        .max_by_key(|(_, leaf)| leaf.left)
-        .map(|(place, _)| place)
+    let widest = places.max_by_key(|(_, leaf)| leaf.left);
+    widest.map(|(place, _)| place)
 }
 
 /// By how much what is left falls, a little where it does not.
@@ -85,14 +83,11 @@ impl Engine<'_> {
         let mut best: Option<Split> = None;
         self.suppose(&[])?;
         for (weight, literal) in self.choices.heaviest_of(&self.trail, &self.edges, LOOKS)? {
-            let left = [self.left_after(literal)?, self.left_after(!literal)?];
-            let score = weight * gain(before, left[0]) * gain(before, left[1]);
+            let (first, second) = (self.left_after(literal)?, self.left_after(!literal)?);
+            let score = weight * gain(before, first) * gain(before, second);
             if best.is_none_or(|best| score > best.score) {
-                best = Some(Split {
-                    literal,
-                    left,
-                    score,
-                });
+                let sides = [(literal, first), (!literal, second)];
+                best = Some(Split { sides, score });
             }
         }
         Ok(best)
@@ -113,21 +108,16 @@ impl Engine<'_> {
 
     /// One side of a split of a leaf.
     fn side_of(&self, leaf: &Leaf, split: &Split, is_second: bool) -> Result<Leaf> {
-        let literal = if is_second {
-            !split.literal
-        } else {
-            split.literal
-        };
-        let mut sides = leaf.sides.to_vec(self.alloc)?;
+        let (literal, left) = split.sides[usize::from(is_second)];
+        let mut sides = leaf.sides.to_vec(self.instance.alloc)?;
         sides.push((literal, is_second))?;
-        let left = split.left[usize::from(is_second)];
         Ok(Leaf { sides, left })
     }
 
     /// A leaf as a piece.
     fn piece_of(&self, leaf: &Leaf) -> Result<Piece> {
-        let mut name = String::new(self.alloc);
-        let mut arcs = Vec::new(self.alloc);
+        let mut name = String::new(self.instance.alloc);
+        let mut arcs = Vec::new(self.instance.alloc);
         for (literal, is_second) in &leaf.sides {
             name.push(if *is_second { '1' } else { '0' })?;
             arcs.push(self.log.side(*literal, *is_second))?;
@@ -138,8 +128,8 @@ impl Engine<'_> {
     /// Splits what is open under a path into so many pieces at most, each time the one that leaves most. Goes back to the
     /// root.
     pub fn split(&mut self, path: &[Literal], most: usize) -> Result<Vec<Piece>> {
-        let mut leaves = Vec::new(self.alloc);
-        let (sides, left) = (Vec::new(self.alloc), u32::MAX);
+        let mut leaves = Vec::new(self.instance.alloc);
+        let (sides, left) = (Vec::new(self.instance.alloc), u32::MAX);
         leaves.push(Leaf { sides, left })?;
         for _ in 0..most.saturating_mul(2) {
             let Some(place) = widest(&leaves) else {
@@ -158,7 +148,7 @@ impl Engine<'_> {
             }
         }
         self.go_back(0)?;
-        let mut pieces = Vec::new(self.alloc);
+        let mut pieces = Vec::new(self.instance.alloc);
         for leaf in &leaves {
             pieces.push(self.piece_of(leaf)?)?;
         }

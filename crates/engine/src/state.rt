@@ -9,7 +9,6 @@ use instance::{
     Instance, Result, Rows, Settled, Table, Walks, greedy_cliques, settle, start_sequence,
 };
 use propagation::{Cliques, Edges, Lemmas, Literal, Stop, TimeTable, Trail};
-use std::alloc::Global;
 
 /// What a search is made with.
 #[derive(Clone, Copy)]
@@ -43,7 +42,6 @@ const FIRST_REDUCTION: u64 = 2_000;
 /// A search of a project for schedules below a ceiling.
 #[derive(Drop)]
 pub struct Engine<'a> {
-    pub(crate) alloc: Global,
     pub(crate) instance: &'a Instance,
     pub(crate) trail: Trail,
     pub(crate) edges: Edges,
@@ -94,14 +92,8 @@ fn first_values(instance: &Instance, settled: &Settled, most: i32) -> Result<Tab
 
 /// Whether some of a list may run at once: lags and open orders don't part them.
 fn may_overlap(instance: &Instance, settled: &Settled, users: &[u32]) -> bool {
-    for a in users {
-        for b in users {
-            if *a < *b && !settled.is_parted(instance, *a, *b) {
-                return true;
-            }
-        }
-    }
-    false
+    let overlap = |a: u32, b: u32| a < b && !settled.is_parted(instance, a, b);
+    users.iter().any(|a| users.iter().any(|b| overlap(*a, *b)))
 }
 
 /// The resources of which some users may run at once.
@@ -146,7 +138,6 @@ impl<'a> Engine<'a> {
         let sequence = start_sequence(instance, &settled.walks)?;
         let only_orders = resources.is_empty();
         Ok(Engine {
-            alloc,
             instance,
             table: TimeTable::new(instance, &resources)?,
             cliques: Cliques::new(instance, &edges, &found)?,

@@ -9,13 +9,11 @@ mod numbers;
 mod orders;
 mod rows;
 mod table;
-mod tables;
 mod walks;
 
 pub use cliques::greedy_cliques;
 pub use numbers::{Edge, Instance};
 pub use orders::{Rivals, Settled, settle, start_sequence};
 pub use rows::Rows;
-pub use table::Table;
-pub use tables::{Result, narrow};
+pub use table::{Result, Table, narrow};
 pub use walks::Walks;

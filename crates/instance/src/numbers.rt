@@ -118,14 +118,11 @@ impl Instance {
         self.demands.part(row, end)
     }
 
-    /// Whether an activity runs and needs some of a resource.
-    pub fn uses(&self, activity: u32, resource: u32) -> bool {
-        self.durations[activity] > 0 && self.demand(activity, resource) > 0
-    }
-
     /// The activities that run and need some of a resource.
     pub fn users(&self, resource: u32) -> Result<Vec<u32>> {
-        let users = (0..self.count()).filter(|activity: &u32| self.uses(*activity, resource));
+        let users = (0..self.count()).filter(|activity: &u32| {
+            self.durations[*activity] > 0 && self.demand(*activity, resource) > 0
+        });
         users.collect(self.alloc)
     }
 
@@ -141,26 +138,20 @@ impl Instance {
             )| first.wrapping_add(*second) > *capacity)
     }
 
-    /// The duration times the demand of an activity for a resource.
-    fn work(&self, activity: u32, resource: u32) -> i64 {
-        let demand = i64::from(self.demand(activity, resource));
-        i64::from(self.durations[activity]).wrapping_mul(demand)
-    }
-
     /// How long all activities need a resource, if it were always used up.
     fn load(&self, resource: u32) -> i64 {
-        let works = (0..self.count()).map(|activity| self.work(activity, resource));
+        let works = (0..self.count()).map(|activity| {
+            let demand = i64::from(self.demand(activity, resource));
+            i64::from(self.durations[activity]).wrapping_mul(demand)
+        });
         works.fold(0, i64::wrapping_add) / i64::from(self.capacities[resource].max(1))
     }
 
     /// A makespan that a shortest schedule seldom exceeds: twice the longest walk and the greatest load.
     pub fn likely_end(&self, walk: i32) -> i32 {
         let loads = (0..self.resource_count()).map(|resource| self.load(resource));
-        let end = loads
-            .max()
-            .unwrap_or(0)
-            .wrapping_add(i64::from(walk))
-            .wrapping_mul(2);
+        let load = loads.max().unwrap_or(0);
+        let end = load.wrapping_add(i64::from(walk)).wrapping_mul(2);
         (end.clamp(0, MAX_HORIZON) as i32).min(self.horizon)
     }
 

@@ -6,6 +6,12 @@ use crate::{Result, Table, narrow};
 use std::cmp::Reverse;
 use std::mem;
 
+/// Orders of more pairs than this would cost more than they bring.
+const MOST_PAIRS: usize = 20_000;
+
+/// About how many entries of the matrix may be looked at.
+const BUDGET: u64 = 500_000_000;
+
 /// Two rivals whose order is open.
 #[derive(Clone, Copy, PartialEq, Eq, PartialOrd, Ord, Debug)]
 pub struct Rivals {
@@ -32,26 +38,14 @@ impl Settled {
         self.walks.part(instance, first, second)
             || self.open.binary_search(&Rivals { first, second }).is_ok()
     }
-}
 
-/// Orders of more pairs than this would cost more than they bring.
-const MOST_PAIRS: usize = 20_000;
-
-/// About how many entries of the matrix may be looked at.
-const BUDGET: u64 = 500_000_000;
-
-impl Settled {
     /// Whether the first activity of an order can end before the other starts, if no schedule ends after `most`.
     fn fits(&self, instance: &Instance, order: Edge, most: i32) -> bool {
         let head = self.walks.longest(0, order.from).unwrap_or(0);
         let tail = self.walks.longest(order.to, instance.end()).unwrap_or(0);
         let end = head.saturating_add(order.weight).saturating_add(tail);
-        let is_closed = |back: i32| back.saturating_add(order.weight) > 0;
-        end <= most
-            && !self
-                .walks
-                .longest(order.to, order.from)
-                .is_some_and(is_closed)
+        let back = 1i32.wrapping_sub(order.weight);
+        end <= most && !self.walks.reaches(order.to, order.from, back)
     }
 
     /// Puts in the order of a pair if only one fits. Whether it stays open.

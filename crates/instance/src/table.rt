@@ -1,8 +1,15 @@
 //! A list that answers at each place.
 
-use crate::{Result, narrow};
 use std::alloc::{AllocError, Global};
 use std::ops::{Index, IndexMut};
+
+/// What code gives that may run out of memory.
+pub type Result<T, E = AllocError> = std::result::Result<T, E>;
+
+/// The low 32 bits of a place.
+pub fn narrow(place: usize) -> u32 {
+    (place & 0xffff_ffff) as u32
+}
 
 /// A list that answers at each place: past its end it holds `rest`, and what is written there is lost.
 #[derive(Drop)]

@@ -34,7 +34,7 @@ struct Seat {
     place: u32,
 }
 
-/// A clique, and the places of the two activities of a pair.
+/// A clique, and the places of two activities, of which one runs before the other.
 #[derive(Clone, Copy, Default)]
 struct Seats {
     clique: u32,
@@ -58,7 +58,7 @@ pub struct Cliques<'a> {
     /// By clique. Where there are news, it is in `todo`.
     news: Table<CliqueChanges>,
     todo: Vec<u32>,
-    /// By activity, and by pair.
+    /// By activity, and by the slot of a pair, which says its order.
     seats: Rows<Seat>,
     pairs: Rows<Seats>,
     /// Events before this one are noticed.
@@ -74,11 +74,8 @@ fn bit(place: u32) -> Set {
 fn parted(instance: &Instance, found: &Rows<u32>) -> Result<(Rows<u32>, u32)> {
     let sizes = (0..found.count()).map(|clique| found.row(clique).len().min(MOST) as u64);
     let work = sizes.map(|size| size.wrapping_mul(size));
-    let most = if work.fold(0, u64::wrapping_add) <= WORK {
-        MOST
-    } else {
-        0
-    };
+    let is_little = work.fold(0, u64::wrapping_add) <= WORK;
+    let most = if is_little { MOST } else { 0 };
     let is_short = |clique: &u32| found.row(*clique).len() <= most;
     let short = (0..found.count()).filter(is_short);
     let long = (0..found.count()).filter(|clique| !is_short(clique));
@@ -153,14 +150,12 @@ impl<'a> Cliques<'a> {
             let count = narrow(self.members.row(clique).len()).max(1);
             for at in 0..count.wrapping_mul(count) {
                 let (one, other) = (at / count, at % count);
-                let a = self.members[self.at(clique, one)];
-                let b = self.members[self.at(clique, other)];
+                let a = self.members.values[self.at(clique, one)];
+                let b = self.members.values[self.at(clique, other)];
                 match edges.precedence(a, b) {
                     None => self.turn(clique, one, other),
-                    Some(literal) if a < b && literal != NEVER => {
-                        pairs.push((literal.variable(), Seats { clique, one, other }))?;
-                    }
-                    _ => {}
+                    Some(NEVER) => {}
+                    Some(order) => pairs.push((order.slot, Seats { clique, one, other }))?,
                 }
             }
         }
@@ -197,7 +192,7 @@ impl<'a> Cliques<'a> {
     /// A bound of an activity moved.
     fn notice_bound(&mut self, activity: u32, is_least: bool) -> Result<()> {
         for number in self.seats.numbers(activity) {
-            let Seat { clique, place } = self.seats[number];
+            let Seat { clique, place } = self.seats.values[number];
             let at = self.at(clique, place);
             let least = if is_least { self.after[at] } else { 0 };
             let greatest = if is_least { 0 } else { self.before[at] };
@@ -206,35 +201,24 @@ impl<'a> Cliques<'a> {
         Ok(())
     }
 
-    /// The clique of a pair, with the places of the activity that is first by an order of it, and of the other one.
-    fn seats_of(&self, number: u32, is_first: bool) -> (u32, u32, u32) {
-        let Seats { clique, one, other } = self.pairs[number];
-        if is_first {
-            (clique, one, other)
-        } else {
-            (clique, other, one)
-        }
-    }
-
-    /// A pair got an order.
-    fn notice_order(&mut self, pair: u32, is_first: bool) -> Result<()> {
-        for number in self.pairs.numbers(pair) {
-            let (clique, first, second) = self.seats_of(number, is_first);
-            self.turn(clique, first, second);
-            self.note(clique, 0, bit(second), bit(first))?;
+    /// A pair got an order, by a slot.
+    fn notice_order(&mut self, slot: u32) -> Result<()> {
+        for number in self.pairs.numbers(slot) {
+            let Seats { clique, one, other } = self.pairs.values[number];
+            self.turn(clique, one, other);
+            self.note(clique, 0, bit(other), bit(one))?;
         }
         Ok(())
     }
 
     /// The last event of the trail is taken back.
     pub fn forget(&mut self, trail: &Trail, event: &BoundChange) {
-        let variable = event.slot / 2;
-        if variable < self.instance.count() || trail.count() >= self.queue {
+        if event.slot / 2 < self.instance.count() || trail.count() >= self.queue {
             return;
         }
-        for number in self.pairs.numbers(variable) {
-            let (clique, first, second) = self.seats_of(number, event.slot % 2 == 0);
-            self.turn(clique, first, second);
+        for number in self.pairs.numbers(event.slot) {
+            let Seats { clique, one, other } = self.pairs.values[number];
+            self.turn(clique, one, other);
         }
     }
 
@@ -251,11 +235,10 @@ impl<'a> Cliques<'a> {
     fn catch_up(&mut self, trail: &Trail) -> Result<()> {
         for number in self.queue..trail.count() {
             let slot = trail.event(number).slot;
-            let (variable, is_lower) = (slot / 2, slot % 2 == 0);
-            if variable < self.instance.count() {
-                self.notice_bound(variable, is_lower)?;
+            if slot / 2 < self.instance.count() {
+                self.notice_bound(slot / 2, slot % 2 == 0)?;
             } else {
-                self.notice_order(variable, is_lower)?;
+                self.notice_order(slot)?;
             }
             self.queue = number.wrapping_add(1);
         }
@@ -326,7 +309,7 @@ impl<'a> Cliques<'a> {
     fn push(&self, trail: &mut Trail, seat: Seat, is_least: bool) -> Result<(), Stop> {
         let Seat { clique, place } = seat;
         let at = self.at(clique, place);
-        let activity = self.members[at];
+        let activity = self.members.values[at];
         let reason = |time: i32| Reason::Pushed { clique, time };
         if is_least {
             let windows = self.windows.row(clique);

@@ -30,8 +30,6 @@ pub struct Edges {
     by_slot: Rows<u32>,
     /// By first and second activity: the literal by which they run in this order, none where they do so by lags.
     precedences: Table<Option<Literal>>,
-    /// The pairs whose orders are variables.
-    pub pairs: Vec<Rivals>,
 }
 
 /// The two arcs of an edge.
@@ -48,17 +46,15 @@ fn is_implied(walks: &Walks, edge: Edge) -> bool {
     let Edge { from, to, weight } = edge;
     let is_short = |a: u32, b: u32, back: i32| !walks.reaches(a, b, back.wrapping_neg());
     (1..walks.count()).any(|middle: u32| {
-        if middle == from || middle == to {
+        let ways = (walks.longest(from, middle), walks.longest(middle, to));
+        let (Some(first), Some(last)) = ways else {
             return false;
-        }
-        match (walks.longest(from, middle), walks.longest(middle, to)) {
-            (Some(first), Some(last)) => {
-                first.wrapping_add(last) >= weight
-                    && is_short(middle, from, first)
-                    && is_short(to, middle, last)
-            }
-            _ => false,
-        }
+        };
+        middle != from
+            && middle != to
+            && first.wrapping_add(last) >= weight
+            && is_short(middle, from, first)
+            && is_short(to, middle, last)
     })
 }
 
@@ -106,9 +102,8 @@ impl Edges {
             orders: Rows::new(alloc, Order::default()),
             by_slot: Rows::new(alloc, 0),
             precedences: precedences(instance, &settled.walks)?,
-            pairs: Vec::from_slice(alloc, &settled.open)?,
         };
-        edges.take_orders(instance)?;
+        edges.take_orders(instance, &settled.open)?;
         let mut by_slot = Vec::new(alloc);
         for (number, order) in (0..u32::MAX).zip(&edges.orders.values.items) {
             by_slot.push((order.literal.slot, number))?;
@@ -118,9 +113,9 @@ impl Edges {
     }
 
     /// Takes both orders of each pair.
-    fn take_orders(&mut self, instance: &Instance) -> Result<()> {
+    fn take_orders(&mut self, instance: &Instance, pairs: &[Rivals]) -> Result<()> {
         let mut orders = Vec::new(instance.alloc);
-        for (variable, Rivals { first, second }) in (self.activities..u32::MAX).zip(&self.pairs) {
+        for (variable, Rivals { first, second }) in (self.activities..u32::MAX).zip(pairs) {
             let before = Literal::at_least(variable, 1);
             for (from, to, literal) in [(*first, *second, before), (*second, *first, !before)] {
                 self.precedences[instance.place(from, to)] = Some(literal);
@@ -158,8 +153,8 @@ impl Edges {
     /// What follows from the slot of a pair.
     fn follow_pair(&self, trail: &mut Trail, slot: u32) -> Result<(), Stop> {
         for order in self.by_slot.row(slot) {
-            let value = trail.values()[self.orders[*order].arc.from];
-            follow_order(trail, self.orders[*order], value, *order)?;
+            let value = trail.values()[self.orders.values[*order].arc.from];
+            follow_order(trail, self.orders.values[*order], value, *order)?;
         }
         Ok(())
     }

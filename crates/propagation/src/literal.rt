@@ -53,9 +53,4 @@ impl Literal {
     pub fn is_lower(self) -> bool {
         self.slot % 2 == 0
     }
-
-    /// The literal of another value of its slot.
-    pub fn with(self, value: i32) -> Literal {
-        Literal { value, ..self }
-    }
 }

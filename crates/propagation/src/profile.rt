@@ -195,14 +195,8 @@ impl Profile {
         if own.from <= begin && begin < own.to {
             return None;
         }
-        let mut resource = 0u32;
-        for (room, demand) in self.room_in(segment).iter().zip(demands) {
-            if room < demand {
-                return Some(resource);
-            }
-            resource = resource.wrapping_add(1);
-        }
-        None
+        let mut amounts = self.room_in(segment).iter().zip(demands);
+        amounts.position(|(room, demand)| room < demand).map(narrow)
     }
 
     /// The last time of a part at which there is no room for an activity beside its own part, or the first one; and the
@@ -222,10 +216,8 @@ impl Profile {
         let mut segment = self.find(near);
         for _ in 0..u64::MAX {
             let next = segment.wrapping_add(1);
-            let (begin, end) = (
-                self.begin(segment).max(part.from),
-                self.begin(next).min(part.to),
-            );
+            let begin = self.begin(segment).max(part.from);
+            let end = self.begin(next).min(part.to);
             if begin >= end {
                 break;
             }
@@ -242,10 +234,12 @@ impl Profile {
         None
     }
 
-    /// Lists the activities that run in a segment.
-    pub(crate) fn list_running(&self, segment: u32, list: &mut Vec<u32>) -> Result<()> {
+    /// Lists the activities that run at a time.
+    pub fn list_running(&self, time: i32, list: &mut Vec<u32>) -> Result<()> {
+        list.clear();
+        let first = self.bits_at(self.find(time));
         for word in 0..self.words {
-            let mut bits = self.running[self.bits_at(segment).wrapping_add(word)];
+            let mut bits = self.running[first.wrapping_add(word)];
             for _ in 0..bits.count_ones() {
                 list.push(word.wrapping_mul(64).wrapping_add(bits.trailing_zeros()))?;
                 bits = bits & bits.wrapping_sub(1);

@@ -4,11 +4,12 @@ use crate::literal::Literal;
 use std::alloc::AllocError;
 
 /// Why an event came.
-#[derive(Clone, Copy, PartialEq, Eq, Debug)]
+#[derive(Clone, Copy, PartialEq, Eq, Debug, Default)]
 pub enum Reason {
     /// It was tried.
     Decision,
     /// It holds from the beginning, by the project or by a ceiling.
+    #[default]
     Given,
     /// An arc moved a bound.
     Arc { arc: u32 },

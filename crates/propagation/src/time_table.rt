@@ -41,7 +41,8 @@ pub struct TimeTable<'a> {
     /// By resource: the greatest demand, and what a part has left, if that is not enough for all.
     greatest_demands: Table<i32>,
     rooms: Table<i32>,
-    profile: Profile,
+    /// Those that run for sure, whatever they need.
+    pub profile: Profile,
     /// From its greatest start to its least end, by activity: what the profile has of it.
     parts: Table<Interval>,
     /// Activities, and what the profile had of them before each change.
@@ -85,8 +86,7 @@ impl<'a> TimeTable<'a> {
         for activity in self.instance.users(resource)?.iter() {
             self.durations[*activity] = self.instance.durations[*activity];
             let demand = self.instance.demand(*activity, resource);
-            let greatest = &mut self.greatest_demands[resource];
-            *greatest = demand.max(*greatest);
+            self.greatest_demands[resource] = demand.max(self.greatest_demands[resource]);
         }
         Ok(())
     }
@@ -121,11 +121,8 @@ impl<'a> TimeTable<'a> {
 
     /// Notes those that may be pushed by a part: they need more of a resource than it has left.
     fn note_pushed(&mut self, trail: &Trail, part: Interval) -> Result<()> {
-        let windows = trail
-            .values()
-            .items
-            .chunks_exact(2)
-            .zip(&self.durations.items);
+        let windows = trail.values().items.chunks_exact(2);
+        let windows = windows.zip(&self.durations.items);
         for (activity, (window, duration)) in (0..self.parts.count()).zip(windows) {
             let (least, greatest) = (window[0], window[1].wrapping_neg());
             let meets = |start: i32| start < part.to && start.wrapping_add(*duration) > part.from;
@@ -194,10 +191,7 @@ impl<'a> TimeTable<'a> {
         for part in new.more_than(old).iter().filter(|part| !part.is_empty()) {
             overload = overload.or(self.fill(trail, activity, *part)?);
         }
-        match overload {
-            Some(conflict) => Err(Stop::Conflict(conflict)),
-            None => Ok(()),
-        }
+        overload.map_or(Ok(()), |conflict| Err(Stop::Conflict(conflict)))
     }
 
     /// Takes notice of an event of a slot.
@@ -243,10 +237,8 @@ impl<'a> TimeTable<'a> {
                 trail.greatest(activity)
             };
             let to = from.wrapping_add(duration);
-            let full = self
-                .profile
-                .full(demands, Interval { from, to }, own, is_least);
-            let Some((time, resource)) = full else {
+            let part = Interval { from, to };
+            let Some((time, resource)) = self.profile.full(demands, part, own, is_least) else {
                 break;
             };
             let literal = match is_least {
@@ -256,11 +248,5 @@ impl<'a> TimeTable<'a> {
             trail.force(literal, Reason::Full { resource, time })?;
         }
         Ok(())
-    }
-
-    /// Lists those that run at a time for sure, whatever they need.
-    pub fn list_running(&self, time: i32, list: &mut Vec<u32>) -> Result<()> {
-        list.clear();
-        self.profile.list_running(self.profile.find(time), list)
     }
 }

@@ -6,7 +6,7 @@ use instance::{Result, Table};
 use std::alloc::Global;
 
 /// A slot got a greater value.
-#[derive(Clone, Copy, Debug)]
+#[derive(Clone, Copy, Debug, Default)]
 pub struct BoundChange {
     pub slot: u32,
     pub old: i32,
@@ -16,16 +16,6 @@ pub struct BoundChange {
     before: u32,
     pub reason: Reason,
 }
-
-/// Stands for all that always held.
-const FIRST: BoundChange = BoundChange {
-    slot: 0,
-    old: 0,
-    new: 0,
-    level: 0,
-    before: 0,
-    reason: Reason::Given,
-};
 
 /// The values of all slots, and the events that made them. Each decision begins a level; level 0 is the root. Event 0
 /// stands for what always held.
@@ -43,10 +33,11 @@ impl Trail {
     /// The trail of no events over slots with these values.
     pub fn new(alloc: Global, values: Table<i32>) -> Result<Trail> {
         let last = Table::filled(alloc, values.count() as usize, 0, 0)?;
+        let first = BoundChange::default();
         Ok(Trail {
             values,
             last,
-            events: Table::filled(alloc, 1, FIRST, FIRST)?,
+            events: Table::filled(alloc, 1, first, first)?,
             levels: Table::new(alloc, 0),
         })
     }

@@ -221,7 +221,7 @@ fn search<R: Clock + Eprint + Wait, J: Naming, P: Pause<J>>(
     let mut searcher = SearchJob {
         alloc,
         job: job as usize,
-        solver: Solver::new(alloc, &instance, run.asked.limits(job, run.slots))?,
+        solver: Solver::new(&instance, run.asked.limits(job, run.slots))?,
         desk: Desk::new(alloc, run.project)?,
         waiting: Vec::new(alloc),
         steps: Vec::new(alloc),

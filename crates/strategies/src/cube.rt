@@ -49,17 +49,6 @@ impl<'a> CubeSearch<'a> {
         if walks.has_loop() || instance.asks_too_much() {
             return Ok(Cubed::Contradiction);
         }
-        CubeSearch::under(instance, walks, limits, ceiling, arcs)
-    }
-
-    /// The same, over the longest walks of a project that does not contradict itself.
-    pub(crate) fn under(
-        instance: &'a Instance,
-        walks: Walks,
-        limits: SolverOptions,
-        ceiling: Option<i32>,
-        arcs: &[Lag],
-    ) -> Result<Cubed<'a>> {
         let options = Options {
             most: ceiling.map_or(instance.horizon, |ceiling| ceiling.wrapping_sub(1)),
             has_log: true,

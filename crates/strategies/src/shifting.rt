@@ -25,19 +25,16 @@ fn nearest(instance: &Instance, room: &Profile, activity: u32, time: i32, is_lat
 
 /// The latest start that the activities after one allow, or the earliest that those before it allow.
 fn allowed(instance: &Instance, starts: &Table<i32>, activity: u32, is_late: bool) -> Option<i32> {
-    let (after, before) = (
-        instance.leaving.row(activity),
-        instance.entering.row(activity),
-    );
-    let after = after.iter().filter(|edge| edge.to != activity);
-    let before = before.iter().filter(|edge| edge.from != activity);
-    match is_late {
-        true => after
-            .map(|edge| starts[edge.to].wrapping_sub(edge.weight))
-            .min(),
-        false => before
-            .map(|edge| starts[edge.from].wrapping_add(edge.weight))
-            .max(),
+    let after = instance.leaving.row(activity).iter();
+    let after = after.filter(|edge| edge.to != activity);
+    let latest = after.map(|edge| starts[edge.to].wrapping_sub(edge.weight));
+    let before = instance.entering.row(activity).iter();
+    let before = before.filter(|edge| edge.from != activity);
+    let earliest = before.map(|edge| starts[edge.from].wrapping_add(edge.weight));
+    if is_late {
+        latest.min()
+    } else {
+        earliest.max()
     }
 }
 

@@ -6,7 +6,6 @@ use crate::turns::{Finder, Turns};
 use engine::{Engine, LoggedEvent, Options, Pace, SearchCounts, Slots, Subsearch, SubsearchState};
 use instance::{Instance, Result, Walks};
 use network::Lag;
-use std::alloc::Global;
 use std::mem;
 
 /// How far a search may go, and from where it breaks ties.
@@ -63,7 +62,6 @@ enum Stage<'a> {
 /// strategies take turns. Or it looks for schedules below an end alone.
 #[derive(Drop)]
 pub struct Solver<'a> {
-    alloc: Global,
     instance: &'a Instance,
     /// The longest walks, until strategies take turns.
     walks: Option<Walks>,
@@ -77,22 +75,22 @@ pub struct Solver<'a> {
 
 impl<'a> Solver<'a> {
     /// A search that has done nothing yet.
-    pub fn new(alloc: Global, instance: &'a Instance, limits: SolverOptions) -> Result<Solver<'a>> {
-        let walks = Walks::new(instance)?;
-        let is_contradiction = walks.has_loop() || instance.asks_too_much();
+    pub fn new(instance: &'a Instance, limits: SolverOptions) -> Result<Solver<'a>> {
         let mut solver = Solver {
-            alloc,
             instance,
             walks: None,
             stage: Stage::Contradiction,
             limits,
-            told: Vec::new(alloc),
+            told: Vec::new(instance.alloc),
             done: SearchCounts::default(),
             is_full: false,
         };
-        if let (Some(below), false) = (limits.below, is_contradiction) {
-            solver.begin_below(walks, below)?;
-        } else if !is_contradiction {
+        if let Some(below) = limits.below {
+            solver.begin_below(below)?;
+            return Ok(solver);
+        }
+        let walks = Walks::new(instance)?;
+        if !walks.has_loop() && !instance.asks_too_much() {
             solver.walks = Some(walks);
             solver.begin_first(None)?;
         }
@@ -125,13 +123,13 @@ impl<'a> Solver<'a> {
     }
 
     /// Begins to look for schedules below an end.
-    fn begin_below(&mut self, walks: Walks, below: i32) -> Result<()> {
+    fn begin_below(&mut self, below: i32) -> Result<()> {
         let arc = Lag {
             from: self.instance.end() as usize,
             to: 0,
             weight: 1i64.wrapping_sub(i64::from(below)),
         };
-        let cubed = CubeSearch::under(self.instance, walks, self.limits, None, &[arc])?;
+        let cubed = CubeSearch::open(self.instance, self.limits, None, &[arc])?;
         if let Cubed::Search(search) = cubed {
             self.stage = Stage::Below(search);
         }
@@ -147,7 +145,7 @@ impl<'a> Solver<'a> {
         let ceiling = dive.unwrap_or(last).min(last);
         let mut engine = self.open(walks, ceiling, dive.is_none(), false)?;
         let most = if dive.is_some() { DIVE } else { ROOT };
-        let run = engine.start(Vec::new(self.alloc), most, Pace::default())?;
+        let run = engine.start(Vec::new(self.instance.alloc), most, Pace::default())?;
         self.stage = Stage::First { engine, run, dive };
         Ok(())
     }
@@ -184,16 +182,6 @@ impl<'a> Solver<'a> {
     }
 
     /// The engine at work.
-    fn engine(&self) -> Option<&Engine<'a>> {
-        match &self.stage {
-            Stage::First { engine, .. } => Some(engine),
-            Stage::Turns(turns) => Some(&turns.engine),
-            Stage::Below(search) => Some(&search.engine),
-            _ => None,
-        }
-    }
-
-    /// The same engine, to be changed.
     fn engine_mut(&mut self) -> Option<&mut Engine<'a>> {
         match &mut self.stage {
             Stage::First { engine, .. } => Some(engine),
@@ -315,13 +303,18 @@ impl<'a> Solver<'a> {
 
     /// How much was done.
     pub fn counts(&self) -> SearchCounts {
-        self.engine().map_or(self.done, |engine| engine.counts)
+        match &self.stage {
+            Stage::First { engine, .. } => engine.counts,
+            Stage::Turns(turns) => turns.engine.counts,
+            Stage::Below(search) => search.engine.counts,
+            _ => self.done,
+        }
     }
 
     /// What the search has proved since it was asked last, in order. Each lemma holds below the shortest schedule that is
     /// known.
     pub fn events(&mut self) -> Result<Vec<LoggedEvent>> {
-        let mut events = mem::replace(&mut self.told, Vec::new(self.alloc));
+        let mut events = mem::replace(&mut self.told, Vec::new(self.instance.alloc));
         if let Some(engine) = self.engine_mut() {
             let mut heard = engine.log.take();
             events.append(&mut heard)?;
