@@ -1,6 +1,6 @@
 -- What jobs answer, and what is read where they don't.
-use Rattle.std.proofs.Common.{◌≡◌, ℕ, Bool, true, false, ◌||◌, List, Option, None, Some, Err, refl, ap, ◌∙◌, inl, inr}
-use Rattle.std.proofs.Common.{◌-◌, ◌<◌, [], ℤ, pos, length, sym, get_or, arith, Result, codes}
+use Rattle.std.proofs.Common.{◌≡◌, ℕ, Bool, true, false, ◌||◌, List, Option, None, Some, Err, refl, ap, ◌∙◌, inl, inr, ◌-◌, ◌<◌, [], ℤ, pos, length, sym}
+use Rattle.std.proofs.Common.{get_or, arith, Result, codes}
 use Rattle.std.specs.Option.{MatchOption}
 use Rattle.std.specs.Prelude.{is_some}
 use Rattle.runs.specs.declared.job.Job.TheVariants as jobs
@@ -10,8 +10,8 @@ use Rattle.runs.specs.Runs.{Span, HasRead, HasReadTexts, IsNoReply, RecordsWhere
 use Rattle.answers.specs.Faults.{exit_of, IsSearchFault}
 use Rattle.answers.specs.Answers.{IsFoundText, IsStartedText, starts_text, IsEarliestText}
 use Rattle.answers.specs.Outcomes.{IsAloneText}
-use Rattle.runs.specs.Outcome.{has_workers, writes_record, SpellsOne, GivesStarts, HasFault, Inputs, IsFirstStartsFault}
-use Rattle.runs.specs.Outcome.{IsAnswer, IsSearchAnswer, IsSearchRefusal, Job, SearchOptions}
+use Rattle.runs.specs.Outcome.{has_workers, writes_record, SpellsOne, GivesStarts, Inputs, IsFirstStartsFault, IsAnswer, IsSearchAnswer, IsSearchRefusal, Job}
+use Rattle.runs.specs.Outcome.{SearchOptions}
 use Rattle.std.proofs.lemmas.List.{get_or_default}
 use Rattle.std.proofs.lemmas.List.Elements.{All-nil}
 use Rattle.network.specs.declared.parts.Pair.{Pair}

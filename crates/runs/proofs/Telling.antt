@@ -1,5 +1,6 @@
 -- What a run tells of a record, and of its own end.
-use Rattle.std.proofs.Common.{◌≡◌, ◌∙◌, ◌⊎◌, ℕ, List, [], Option, Some, Result, Err, ap, inl, inr, subst, sym, take, ◌++◌}
+use Rattle.std.proofs.Common.{◌≡◌, ◌∙◌, ℕ, List, [], Option, Some, ap, inl, inr, subst, sym, ◌++◌}
+use Rattle.std.proofs.KnownBytes.{Consumes-trans}
 use Rattle.std.specs.Io.KnownBytes.{Consumes}
 use Rattle.network.specs.Problem.{IsProject, Problem}
 use Rattle.network.specs.declared.verdict.Verdict.{Verdict}
@@ -8,7 +9,7 @@ use Rattle.answers.specs.declared.fault.Fault.{Fault}
 use Rattle.answers.specs.declared.fault.Fault.TheVariants as faults
 use Rattle.lemma_record.specs.SoFar.{SoFarIsTrue}
 use Rattle.runs.specs.Runs.{HasReadRecord, IfKnown, ReadsOn, Span}
-use Rattle.runs.specs.Verified.{BeginsTree, IsLogProof, IsTree, Shows, line_of}
+use Rattle.runs.specs.Verified.{BeginsTree, IsLogProof, IsTree, OfKind, Shows, line_of}
 use Rattle.runs.specs.declared.scope.Scope.{Scope}
 use Rattle.runs.specs.declared.scope.Scope.TheVariants as scopes
 use Rattle.runs.specs.declared.verifying.RecordKind.{RecordKind}
@@ -39,21 +40,29 @@ record_read_is_told first second fault told tells read = record {
 
 -- ---- a record of either kind
 
-module _ (scope : Scope) (own : RecordKind) (A B : List ℕ → Type 0) (told mid : Option (List ℕ)) (head : List ℕ) where
-  -- what is said of what was read, and of the rest, is said of all that the input tells
-  of_all : (P : List ℕ → Type 0) → ReadsOn 9 [] told head mid → IfKnown mid (λ rest. P (head ++ rest)) → IfKnown told P
-  of_all P read said text is =
+-- an empty text went on with what was read
+pub title_read : {none head : List ℕ} {told mid : Option (List ℕ)} → none ≡ [] → ReadsOn 9 none told head mid → ReadsOn 9 [] told head mid
+title_read {head = head} {told = told} {mid = mid} empty read = subst (λ (text : List ℕ). ReadsOn 9 text told head mid) empty read
+
+module _ {told mid : Option (List ℕ)} {head : List ℕ} (read : ReadsOn 9 [] told head mid) where
+  -- what is said of the title and of the rest is said of all that the input tells
+  of_all : (P : List ℕ → Type 0) → IfKnown mid (λ rest. P (head ++ rest)) → IfKnown told P
+  of_all P said text is =
       let left = rest_left told mid head text (all_read 9 told mid head read) is in
       subst P (sym left.2) (said left.0 left.1)
 
-  pub tree_is : ReadsOn 9 [] told head mid → BeginsTree scope own head → IfKnown mid (λ rest. A (head ++ rest))
-      → IfKnown told (λ text. (IsTree scope own text × A text) ⊎ ((¬ IsTree scope own text) × B text))
-  tree_is read begins said text is =
-      let title : head ≡ take 9 text = reads_whole 9 told mid head text read is in
-      inl (subst (λ (t : List ℕ). BeginsTree scope own t) title begins, of_all A read said text is)
+  pub gave_after : (now : Option (List ℕ)) (rest : List ℕ) → Consumes mid now rest → Consumes told now (head ++ rest)
+  gave_after now rest gave = Consumes-trans told mid now head rest (all_read 9 told mid head read) gave
 
-  pub lemmas_are : ReadsOn 9 [] told head mid → (¬ BeginsTree scope own head) → IfKnown mid (λ rest. B (head ++ rest))
-      → IfKnown told (λ text. (IsTree scope own text × A text) ⊎ ((¬ IsTree scope own text) × B text))
-  lemmas_are read other said text is =
-      let title : head ≡ take 9 text = reads_whole 9 told mid head text read is in
-      inr ((λ tree. other (subst (λ (t : List ℕ). BeginsTree scope own t) (sym title) tree)), of_all B read said text is)
+  module _ (scope : Scope) (own : RecordKind) where
+    pub is_title : (text : List ℕ) → told ≡ Some text → IsTree scope own text → BeginsTree scope own head
+    is_title text is tree = subst (λ (t : List ℕ). BeginsTree scope own t) (sym (reads_whole 9 told mid head text read is)) tree
+
+    pub tree_is : (A B : List ℕ → Type 0) → BeginsTree scope own head → IfKnown mid (λ rest. A (head ++ rest))
+        → IfKnown told (λ text. OfKind scope own text (A text) (B text))
+    tree_is A B begins said text is =
+        inl (subst (λ (t : List ℕ). BeginsTree scope own t) (reads_whole 9 told mid head text read is) begins, of_all A said text is)
+
+    pub lemmas_are : (A B : List ℕ → Type 0) → (¬ BeginsTree scope own head) → IfKnown mid (λ rest. B (head ++ rest))
+        → IfKnown told (λ text. OfKind scope own text (A text) (B text))
+    lemmas_are A B other said text is = inr (λ tree. other (is_title text is tree), of_all B said text is)

@@ -102,15 +102,17 @@ BeginsTree scope own title = ⊥
 abbrev pub IsTree : Scope → RecordKind → List ℕ → Type 0
 IsTree scope own text = BeginsTree scope own (take 9 text)
 
+-- of a text that is a tree's this, and of any other that
+abbrev pub OfKind : Scope → RecordKind → List ℕ → Type 0 → Type 0 → Type 0
+OfKind scope own text This That = (IsTree scope own text × This) ⊎ ((¬ IsTree scope own text) × That)
+
 -- what is written is what the record proves
 abbrev pub IsRecordProof : Scope → RecordKind → Problem → List ℕ → List ℕ → Type 0
-IsRecordProof scope own p text written =
-    (IsTree scope own text × IsTreeProof p text written) ⊎ ((¬ IsTree scope own text) × IsLogProof scope p text written)
+IsRecordProof scope own p text written = OfKind scope own text (IsTreeProof p text written) (IsLogProof scope p text written)
 
 -- the fault is that of the record
 abbrev pub IsRecordFault : Scope → RecordKind → Problem → List ℕ → Fault → Type 0
-IsRecordFault scope own p text fault =
-    (IsTree scope own text × IsTreeFault p text fault) ⊎ ((¬ IsTree scope own text) × TellsEvent scope p text fault)
+IsRecordFault scope own p text fault = OfKind scope own text (IsTreeFault p text fault) (TellsEvent scope p text fault)
 
 -- ---- the story of a run
 

@@ -1,7 +1,6 @@
-use Rattle.std.proofs.Common.{◌≡◌, ◌≢◌, ◌<◌, ◌++◌, ◌∙◌, List, [], ℕ, append_assoc, ap, sym, subst, take, length, arith, refl}
+use Rattle.std.proofs.Common.{◌≡◌, ◌<◌, ◌++◌, ◌∙◌, [], append_assoc, take, length, arith}
 use Rattle.std.proofs.KnownBytes.{Consumes-kept, Consumes-trans}
 use Rattle.std.proofs.lemmas.Result.{err_from_is_err_and}
-use Rattle.lemma_record.specs.Reached.{HasChecked}
 use Rattle.runs.proofs.Pieces.{all_given, tells_event, tells_head}
 use Rattle.runs.proofs.log_proof.read_log.Goals as goal
 

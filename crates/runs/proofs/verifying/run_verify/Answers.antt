@@ -1,4 +1,4 @@
-use Rattle.std.proofs.Common.{◌≡◌, ◌∙◌, ap, None}
+use Rattle.std.proofs.Common.{◌∙◌, ap}
 use Rattle.answers.specs.Faults.{exit_of}
 use Rattle.runs.proofs.CallLaws.{MatchOption-weaker}
 use Rattle.runs.proofs.Telling.{record_read_is_told}
