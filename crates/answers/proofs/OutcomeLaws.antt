@@ -1,6 +1,6 @@
 -- What is said of an outcome is an answer of `solve`.
-use Rattle.std.proofs.Common.{◌≡◌, true, false, Some, None, inl, inr, arith, ℕ, List, [], ◌∷◌, ◌++◌, map, ℤ, pos}
-use Rattle.std.proofs.Common.{negsuc, Option, refl, sym, ap, ◌∙◌, append_assoc, codes}
+use Rattle.std.proofs.Common.{◌≡◌, true, false, Some, None, inl, inr, arith, ℕ, List, [], ◌∷◌, ◌++◌, map, ℤ, pos, negsuc, Option, refl, sym, ap, ◌∙◌}
+use Rattle.std.proofs.Common.{append_assoc, codes}
 use Rattle.plain_search.specs.declared.search.Outcome.{Outcome}
 use Rattle.plain_search.specs.declared.search.Outcome.TheVariants.{Optimal, NoSchedule, Stopped}
 use Rattle.plain_search.specs.Takes.{StopsOnlyAfter}

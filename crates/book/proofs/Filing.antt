@@ -1,7 +1,6 @@
 -- The entries of the open nodes, as one goes in.
-use Rattle.std.proofs.Common.{◌≡◌, ◌<◌, ◌<ℤ◌, ◌≤ℤ◌, ℤ, List, [], ◌∷◌, Some, sym, ap, subst, inl, inr, ◌∙◌, map, arith}
-use Rattle.std.proofs.Common.{false, ◌⊎◌, slice_get, ◌+◌, ◌-◌, ℕ, Bool, true, ◌++◌, Option, refl, length, length-append}
-use Rattle.std.proofs.Common.{cond, zero, suc, None, take, get_or}
+use Rattle.std.proofs.Common.{◌≡◌, ◌<◌, ◌<ℤ◌, ◌≤ℤ◌, ℤ, List, [], ◌∷◌, Some, sym, ap, subst, inl, inr, ◌∙◌, map, arith, false, ◌⊎◌, slice_get, ◌+◌, ◌-◌, ℕ, Bool}
+use Rattle.std.proofs.Common.{true, ◌++◌, Option, refl, length, length-append, cond, zero, suc, None, take, get_or}
 use Rattle.std.specs.List.{All, filter, count_by}
 use Rattle.std.specs.declared.cmp.Ordering.{Ordering}
 use Rattle.std.specs.declared.cmp.Ordering.TheVariants.{Less, Equal, Greater}
@@ -18,9 +17,8 @@ use Rattle.book.specs.OpenNodes.{open_node, IsFiled, IsNamedOtherThan, is_older,
 use Rattle.std.specs.Arc.{arc_value}
 use Rattle.std.specs.BTreeMap.{insert_entry}
 use Rattle.std.specs.List.Sorted.{IsPermutation}
-use Rattle.std.proofs.lemmas.List.Sorted.{IsPermutation-refl, IsPermutation-trans, IsPermutation-cons}
-use Rattle.std.proofs.lemmas.List.Sorted.{IsPermutation-middle, IsPermutation-append_left, IsPermutation-to_front}
-use Rattle.std.proofs.lemmas.List.Sorted.{All-permutation, IsPermutation-append_right}
+use Rattle.std.proofs.lemmas.List.Sorted.{IsPermutation-refl, IsPermutation-trans, IsPermutation-cons, IsPermutation-middle, IsPermutation-append_left}
+use Rattle.std.proofs.lemmas.List.Sorted.{IsPermutation-to_front, All-permutation, IsPermutation-append_right}
 use Rattle.branching.specs.Subproblem.{Subproblem}
 use Rattle.book.specs.State.{Named, BookState, in_hand, live, hand_of, Held}
 use Rattle.branching.specs.Right.{is_below, IsLeast}

@@ -1,6 +1,6 @@
 -- Names of nodes: how often each stands, as nodes move and children are opened.
-use Rattle.std.proofs.Common.{◌≡◌, ◌<◌, ◌≤◌, ◌+◌, ◌==◌, ℕ, Bool, true, false, cond, List, [], ◌∷◌, ◌++◌, length, refl}
-use Rattle.std.proofs.Common.{ap, ◌∙◌, arith, ⊎_elim, map, ℤ, Option, Some, None}
+use Rattle.std.proofs.Common.{◌≡◌, ◌<◌, ◌≤◌, ◌+◌, ◌==◌, ℕ, Bool, true, false, cond, List, [], ◌∷◌, ◌++◌, length, refl, ap, ◌∙◌, arith, ⊎_elim, map, ℤ, Option}
+use Rattle.std.proofs.Common.{Some, None}
 use Rattle.std.specs.List.{All, count_by, Any, filter}
 use Rattle.std.specs.List.Sorted.{IsPermutation}
 use Rattle.std.proofs.lemmas.Bool.{cases_lt}
@@ -15,7 +15,6 @@ use Rattle.book.specs.Sound.{AreNamedOnce, AreNamedBelow, nodes_of}
 use Rattle.book.specs.Steps.{named_from}
 use Rattle.book.specs.OpenNodes.{IsNamedOtherThan}
 use Rattle.std.specs.Option.{option_to_list}
-use Rattle.std.proofs.lemmas.Int.{ints}
 
 -- one where the node has the name, else none
 abbrev has : ℕ → Named → ℕ

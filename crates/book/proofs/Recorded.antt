@@ -1,7 +1,6 @@
 -- The trail of a book, as nodes end and children are opened.
-use Rattle.std.proofs.Common.{◌≡◌, ◌≢◌, ℕ, ◌+◌, ◌<◌, List, [], ◌∷◌, ◌++◌, length, map, refl, sym, ap, ◌∙◌, subst, arith}
-use Rattle.std.proofs.Common.{append_assoc, append-nil, length-append, Option, ⊎_elim, Bool, true, false, get_or, Some}
-use Rattle.std.proofs.Common.{None, slice_get, ℤ, IfSome, option_map}
+use Rattle.std.proofs.Common.{◌≡◌, ◌≢◌, ℕ, ◌+◌, ◌<◌, List, [], ◌∷◌, ◌++◌, length, map, refl, sym, ap, ◌∙◌, subst, arith, append_assoc, append-nil}
+use Rattle.std.proofs.Common.{length-append, Option, ⊎_elim, Bool, true, false, get_or, Some, None, slice_get, ℤ, IfSome, option_map}
 use Rattle.std.specs.List.{All, count_by}
 use Rattle.std.proofs.Math.Seq.{get_or-append_seam}
 use Rattle.std.proofs.lemmas.List.{get_or_append_left, length-map}
@@ -21,8 +20,8 @@ use Rattle.search_log.specs.RightTrail.{IsRightTrail, IsRightEnding, has_ended, 
 use Rattle.search_log.specs.Recording.{ended_as, child_entry, fates_under, ending_of, checked_in}
 use Rattle.book.proofs.Names.{named_once_right, others_named, named_once_moved}
 use Rattle.search_log.proofs.TrailGrowing.{path_kept, path_opens, child_forced, child_entry_is, ended_paths, trail_falls}
-use Rattle.search_log.proofs.TrailSteps.{ended_cases, length_ended, extends_grown, trail_grown, count_ended}
-use Rattle.search_log.proofs.TrailSteps.{ending_right, ending_ends, children_open, one_ended, count_children, all_ended}
+use Rattle.search_log.proofs.TrailSteps.{ended_cases, length_ended, extends_grown, trail_grown, count_ended, ending_right, ending_ends, children_open}
+use Rattle.search_log.proofs.TrailSteps.{one_ended, count_children, all_ended}
 use Rattle.std.specs.List.Sorted.{IsPermutation}
 use Rattle.std.proofs.Math.ListN.{set}
 use Rattle.std.proofs.lemmas.Int.{ints}

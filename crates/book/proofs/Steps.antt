@@ -1,27 +1,25 @@
 -- Each step of a book leads from a sound state to a sound state.
-use Rattle.std.proofs.Common.{◌≡◌, ◌∙◌, ◌<◌, ◌≤◌, ◌+◌, ℕ, Bool, false, List, ◌∷◌, ◌++◌, Option, Some, None, sym, subst}
-use Rattle.std.proofs.Common.{length, length-append, append_assoc, arith, slice_get, ◌^◌, ℤ, true, refl, ap, ◌==◌, []}
-use Rattle.std.proofs.Common.{append-nil, ⊎_elim, ◌⊎◌, inl, inr, IfSome, option_map}
+use Rattle.std.proofs.Common.{◌≡◌, ◌∙◌, ◌<◌, ◌≤◌, ◌+◌, ℕ, Bool, false, List, ◌∷◌, ◌++◌, Option, Some, None, sym, subst, length, length-append, append_assoc}
+use Rattle.std.proofs.Common.{arith, slice_get, ◌^◌, ℤ, true, refl, ap, ◌==◌, [], append-nil, ⊎_elim, ◌⊎◌, inl, inr, IfSome, option_map}
 use Rattle.std.specs.List.{All}
 use Rattle.std.specs.List.Sorted.{IsPermutation}
 use Rattle.std.proofs.Math.ListN.{set, replicate}
 use Rattle.std.proofs.lemmas.List.Elements.{All-tail, All-append, All-weaker, All-nil, All-cons, All-head}
-use Rattle.std.proofs.lemmas.List.Sorted.{IsPermutation-sym, IsPermutation-trans, IsPermutation-middle}
-use Rattle.std.proofs.lemmas.List.Sorted.{IsPermutation-append_left, IsPermutation-append_right, All-permutation}
-use Rattle.std.proofs.lemmas.List.Sorted.{length_permutation}
+use Rattle.std.proofs.lemmas.List.Sorted.{IsPermutation-sym, IsPermutation-trans, IsPermutation-middle, IsPermutation-append_left, IsPermutation-append_right}
+use Rattle.std.proofs.lemmas.List.Sorted.{All-permutation, length_permutation}
 use Rattle.network.specs.Schedule.{ScheduleOf, makespan}
 use Rattle.branching.specs.Subproblem.{Subproblem}
 use Rattle.branching.specs.Right.{Reaches, is_below, IsUnder}
 use Rattle.branching.specs.Fair.{IsScheduleFor, Expansion, IsFair, IsReport, ceiling_of, IsNodeOf, IsRootOf, IsCovered}
 use Rattle.book.specs.State.{Named, BookState, in_hand, live, best_makespan}
 use Rattle.book.specs.Sound.{AreNamedOnce, AreNamedBelow, nodes_of, IsSound}
-use Rattle.book.specs.Steps.{Improves, IsFull, HandsOut, named_from, MayCheckIn, Accepts, ReturnsNode, IsShorterFound}
-use Rattle.book.specs.Steps.{AreAllowed, AreRoots, new_state, MayTake, Cuts, Takes, CheckedIn, Ticket}
+use Rattle.book.specs.Steps.{Improves, IsFull, HandsOut, named_from, MayCheckIn, Accepts, ReturnsNode, IsShorterFound, AreAllowed, AreRoots, new_state, MayTake}
+use Rattle.book.specs.Steps.{Cuts, Takes, CheckedIn, Ticket}
 use Rattle.search_log.specs.RightTrail.{children_below}
 use Rattle.book.specs.Views.{IsKept}
 use Rattle.book.specs.OpenNodes.{IsNamedOtherThan, InsertsChildren}
-use Rattle.book.proofs.Names.{all_left, all_right, filter_at_most, named_once_moved, named_once_right}
-use Rattle.book.proofs.Names.{named_once_opened, length_named, below_named, others_named}
+use Rattle.book.proofs.Names.{all_left, all_right, filter_at_most, named_once_moved, named_once_right, named_once_opened, length_named, below_named}
+use Rattle.book.proofs.Names.{others_named}
 use Rattle.book.proofs.Filing.{in_hand_filled, in_hand_emptied, held_first, in_hand_none}
 use Rattle.book.proofs.Recorded.{cut_state, recorded_moved, recorded_cut, recorded_improved, recorded_accepted}
 use Rattle.book.proofs.Covering.{covered_moved, covered_cut, covered_improved, covered_expanded}

@@ -1,6 +1,6 @@
 -- What is true of a book whenever nobody is changing it.
-use Rattle.std.specs.Prelude.{◌≡◌, ℕ, ◌+◌, ◌*◌, ◌<◌, ◌≤◌, ◌==◌, List, map, length, [], ◌∷◌, IfSome, ◌≤ℤ◌, ℤ, ◌++◌, Option, Some, None}
-use Rattle.std.specs.List.{All, count_by, Contains}
+use Rattle.std.specs.Prelude.{◌≡◌, ℕ, ◌+◌, ◌*◌, ◌<◌, ◌≤◌, ◌==◌, List, map, length, [], ◌∷◌, IfSome, ℤ, ◌++◌, Option, Some, None}
+use Rattle.std.specs.List.{All, count_by}
 use Rattle.branching.specs.Subproblem.{Subproblem}
 use Rattle.branching.specs.Fair.{IsCovered}
 use Rattle.branching.specs.Right.{IsLeast}
@@ -12,7 +12,7 @@ use Rattle.search_log.specs.Recording.{ended_as}
 use Rattle.search_log.specs.RightTrail.{IsRightTrail, IsWholeTree, has_ended}
 use Rattle.std.specs.Option.{option_to_list}
 use Rattle.network.specs.Problem.{Problem}
-use Rattle.network.specs.Schedule.{IsFeasible, makespan, IsShortest, IsLowerBound, HasNoSchedule}
+use Rattle.network.specs.Schedule.{IsLowerBound, HasNoSchedule}
 use Rattle.network.specs.declared.verdict.Verdict.{Verdict}
 use Rattle.network.specs.declared.verdict.Verdict.TheVariants as verdict
 

@@ -1,6 +1,6 @@
 -- What a line of slots has found, once some loads by falling head have filled it.
-use Rattle.std.proofs.Common.{◌≡◌, refl, sym, ap, ◌∙◌, subst, ℕ, suc, ◌+◌, ◌-◌, ◌*◌, ◌<◌, ◌≤◌, max, ◌⊎◌, inl, inr}
-use Rattle.std.proofs.Common.{⊎_elim, List, [], ◌∷◌, length, get_or, take, arith}
+use Rattle.std.proofs.Common.{◌≡◌, refl, sym, ap, ◌∙◌, subst, ℕ, suc, ◌+◌, ◌-◌, ◌*◌, ◌<◌, ◌≤◌, max, ◌⊎◌, inl, inr, ⊎_elim, List, [], ◌∷◌, length, get_or, take}
+use Rattle.std.proofs.Common.{arith}
 use Rattle.std.specs.List.{All, Contains, sum_by}
 use Rattle.std.specs.List.Sorted.{IsNonDecreasing}
 use Rattle.std.proofs.lemmas.Bool.{cases_lt}
@@ -10,9 +10,8 @@ use Rattle.std.proofs.Math.Nat.{mul-le-mul_left}
 use Rattle.bounds.specs.declared.limits.TheConstants.{MAX_CAPACITY, MAX_END, MAX_WORK}
 use Rattle.bounds.specs.Loads.{IsSmall, AreLoads, work_after, envelope, IsEnvelopeUpTo, IsAbove, line_of, width_before, IsFilled, Load}
 use Rattle.bounds.proofs.Widths.{width_more}
-use Rattle.bounds.proofs.LateWork.{line_marks, line_far, sum_small, product_small, late_work, late_work-late}
-use Rattle.bounds.proofs.LateWork.{late_work-early, late_work-le, work_after-low, work_after-early, work_after-le}
-use Rattle.bounds.proofs.LateWork.{IsTop, sum_more, passed, work_reaches}
+use Rattle.bounds.proofs.LateWork.{line_marks, line_far, sum_small, product_small, late_work, late_work-late, late_work-early, late_work-le, work_after-low}
+use Rattle.bounds.proofs.LateWork.{work_after-early, work_after-le, IsTop, sum_more, passed, work_reaches}
 
 -- ---- tops that are raised by a fill, over plain numbers
 

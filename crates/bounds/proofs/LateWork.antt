@@ -1,13 +1,11 @@
 -- The work of loads with at least some tail, of those that were passed by falling head.
-use Rattle.std.proofs.Common.{◌≡◌, sym, ap, ◌∙◌, subst, ℕ, ◌+◌, ◌<◌, ◌≤◌, max, ◌⊎◌, List, [], ◌∷◌, ◌++◌, length, get_or}
-use Rattle.std.proofs.Common.{take, arith, ℤ, pos, map, ◌*◌, ⊎_elim, refl, ◌≢◌, set, length-append, nat_lt}
-use Rattle.std.proofs.Common.{if◌then◌else◌, unsigned_abs}
+use Rattle.std.proofs.Common.{◌≡◌, sym, ap, ◌∙◌, subst, ℕ, ◌+◌, ◌<◌, ◌≤◌, max, ◌⊎◌, List, [], ◌∷◌, ◌++◌, length, get_or, take, arith, ℤ, pos, map, ◌*◌, ⊎_elim}
+use Rattle.std.proofs.Common.{refl, ◌≢◌, set, length-append, nat_lt, if◌then◌else◌, unsigned_abs}
 use Rattle.std.specs.List.{All, Contains, sum_by}
 use Rattle.std.specs.Ordering.{ord_max, nat_cmp}
 use Rattle.std.proofs.lemmas.Bool.Decides.{nat_tests}
-use Rattle.std.proofs.lemmas.List.{take_more, length-take-le, get_or-take, length-map, get_or_default}
-use Rattle.std.proofs.lemmas.List.{get_or_append_left, get_or_push, get_or-map, get_or-set_same, get_or-set_other}
-use Rattle.std.proofs.lemmas.List.{length-set, ext_get_or}
+use Rattle.std.proofs.lemmas.List.{take_more, length-take-le, get_or-take, length-map, get_or_default, get_or_append_left, get_or_push, get_or-map}
+use Rattle.std.proofs.lemmas.List.{get_or-set_same, get_or-set_other, length-set, ext_get_or}
 use Rattle.std.proofs.lemmas.List.Elements.{All-from_get_or, Contains-push_cases, All-map, All-contains, Contains-get_or}
 use Rattle.std.proofs.lemmas.List.Sums.{sum_by_more, sum_by-take-le, sum_by-le}
 use Rattle.bounds.specs.Loads.{AreLoads, work_after, tail_of, load, IsSmall, AreTailsOf, AreLoadsOf, IsEnvelopeUpTo, line_of, Load}

@@ -1,27 +1,27 @@
 -- Ranks along an order of all tasks are those of their tails, and loads along one are those of the tasks.
-use Rattle.std.proofs.Common.{◌≡◌, sym, ap, ◌∙◌, ℕ, ◌+◌, ◌<◌, inl, inr, set, Vec, List, take, map, length, get_or}
-use Rattle.std.proofs.Common.{arith, refl, subst, ◌-◌, ◌≤◌, ⊎_elim, ℤ, pos, unsigned_abs, nat_le, reverse}
+use Rattle.std.proofs.Common.{◌≡◌, sym, ap, ◌∙◌, ℕ, ◌+◌, ◌<◌, inl, inr, set, Vec, List, take, map, length, get_or, arith, refl, subst, ◌-◌, ◌≤◌, ⊎_elim, ℤ, pos}
+use Rattle.std.proofs.Common.{unsigned_abs, nat_le, reverse}
 use Rattle.std.specs.List.{range_with_len, All, Contains}
 use Rattle.std.specs.Vec.{with_items}
 use Rattle.std.specs.declared.alloc.Global.{Global}
 use Rattle.std.proofs.lemmas.Bool.{cases_eq, cases_lt, le-leb, lt-leb}
 use Rattle.std.proofs.lemmas.List.FromFn.{get_or-map-range_with_len, length-map-range_with_len, length-range_with_len}
-use Rattle.std.proofs.lemmas.List.{with_items_is, ext_get_or, get_or-map, length-map, get_or-set_same, get_or-set_other}
-use Rattle.std.proofs.lemmas.List.{get_or-take, length-take-le, get_or_default, length-reverse, get_or-reverse}
+use Rattle.std.proofs.lemmas.List.{with_items_is, ext_get_or, get_or-map, length-map, get_or-set_same, get_or-set_other, get_or-take, length-take-le}
+use Rattle.std.proofs.lemmas.List.{get_or_default, length-reverse, get_or-reverse}
 use Rattle.std.specs.List.Sorted.{IsPermutation}
 use Rattle.std.proofs.lemmas.Grind.{get_or_default_zero}
 use Rattle.std.proofs.lemmas.List.Elements.{All-map, Contains-get_or}
 use Rattle.std.proofs.lemmas.List.Sums.{prefix_len_is}
-use Rattle.std.proofs.lemmas.List.Sorted.{All-permutation, Contains-permutation, IsPermutation-map, IsPermutation-trans}
-use Rattle.std.proofs.lemmas.List.Sorted.{IsPermutation-reverse, length_permutation}
+use Rattle.std.proofs.lemmas.List.Sorted.{All-permutation, Contains-permutation, IsPermutation-map, IsPermutation-trans, IsPermutation-reverse}
+use Rattle.std.proofs.lemmas.List.Sorted.{length_permutation}
 use Rattle.network.specs.Problem.{IsBetween}
 use Rattle.network.specs.declared.limits.TheConstants.{MAX_WALK_WEIGHT}
 use Rattle.network.specs.Schedule.{start}
 use Rattle.network.proofs.Schedules.{range_below}
 use Rattle.bounds.specs.Energy.{AreEnds, Task}
 use Rattle.profile.specs.Orders.{IsOrder, key_at, HaveKeys, Rises}
-use Rattle.bounds.specs.Loads.{tail_of, rank_of, load, AreTailsOf, AreFalling, AreLoadsOf, IsRank, IsRanked, task_at}
-use Rattle.bounds.specs.Loads.{AreKeysOf, keyed_load, AreRanked, AreRankedLoads, Load}
+use Rattle.bounds.specs.Loads.{tail_of, rank_of, load, AreTailsOf, AreFalling, AreLoadsOf, IsRank, IsRanked, task_at, AreKeysOf, keyed_load, AreRanked}
+use Rattle.bounds.specs.Loads.{AreRankedLoads, Load}
 use Rattle.bounds.proofs.Tasks.{range_there, Contains-map}
 use Rattle.bounds.proofs.Greatest.{end_above, abs_le}
 

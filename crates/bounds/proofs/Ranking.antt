@@ -1,6 +1,6 @@
 -- Ranks along an order by rising keys, one place after another.
-use Rattle.std.proofs.Common.{◌≡◌, refl, sym, ap, ◌∙◌, ℕ, ◌+◌, ◌-◌, ◌<◌, ◌≤◌, inl, inr, ⊎_elim, ℤ, pos, List, length}
-use Rattle.std.proofs.Common.{get_or, set, arith, unsigned_abs, nat_le, nat_lt, get_or-set_same, get_or-set_other}
+use Rattle.std.proofs.Common.{◌≡◌, refl, sym, ap, ◌∙◌, ℕ, ◌+◌, ◌-◌, ◌<◌, ◌≤◌, inl, inr, ⊎_elim, ℤ, pos, List, length, get_or, set, arith, unsigned_abs, nat_le}
+use Rattle.std.proofs.Common.{nat_lt, get_or-set_same, get_or-set_other}
 use Rattle.std.proofs.lemmas.Bool.{cases_eq, cases_lt, le-leb, leb-true, leb-false, lt-leb, ltb-true, ltb-false, lt-ltb, le-ltb}
 use Rattle.profile.specs.Orders.{key_at}
 use Rattle.bounds.specs.Loads.{IsRank, IsKeyOf, IsRanked, rank_of}

@@ -1,7 +1,6 @@
 -- The tasks of a resource are the activities that have work for it.
-use Rattle.std.proofs.Common.{◌≡◌, refl, ap, ◌∙◌, ℕ, zero, suc, ◌<◌, Bool, true, false, cond, ◌&&◌, ℤ, pos, negsuc}
-use Rattle.std.proofs.Common.{◌≤ℤ◌, List, [], ◌∷◌, get_or, arith, sym, ◌*◌, ◌≤◌, ⊎_elim, length, map, ◌+◌, ◌-◌, add-suc}
-use Rattle.std.proofs.Common.{add-zero, int_le, unsigned_abs}
+use Rattle.std.proofs.Common.{◌≡◌, refl, ap, ◌∙◌, ℕ, zero, suc, ◌<◌, Bool, true, false, cond, ◌&&◌, ℤ, pos, negsuc, ◌≤ℤ◌, List, [], ◌∷◌, get_or, arith, sym}
+use Rattle.std.proofs.Common.{◌*◌, ◌≤◌, ⊎_elim, length, map, ◌+◌, ◌-◌, add-suc, add-zero, int_le, unsigned_abs}
 use Rattle.std.specs.List.{All, Contains, filter, range_with_len, sum_by}
 use Rattle.std.proofs.lemmas.Int.{ints}
 use Rattle.std.proofs.lemmas.List.FromFn.{get_or-range_with_len, length-range_with_len, get_or-map-range_with_len, length-map-range_with_len}

@@ -2,8 +2,8 @@
 use Rattle.std.proofs.Common.{◌≡◌, refl, subst, ℕ, ◌<◌, arith, ℤ, pos, ◌≤ℤ◌, Option, None, Some, ⊎_elim, List, [], ◌∷◌, ◌++◌, map, length, get_or}
 use Rattle.std.proofs.lemmas.Int.{ints}
 use Rattle.std.specs.List.{Contains}
-use Rattle.std.proofs.lemmas.List.Elements.{All-nil, All-cons, All-push, All-contains, All-get_or, Contains-append_left}
-use Rattle.std.proofs.lemmas.List.Elements.{Contains-append_right, Contains-append_cases, Contains-push_cases}
+use Rattle.std.proofs.lemmas.List.Elements.{All-nil, All-cons, All-push, All-contains, All-get_or, Contains-append_left, Contains-append_right}
+use Rattle.std.proofs.lemmas.List.Elements.{Contains-append_cases, Contains-push_cases}
 use Rattle.network.specs.declared.parts.Lag.{Lag}
 use Rattle.network.specs.declared.parts.Pair.{Pair}
 use Rattle.network.specs.Problem.{Problem, activity_count, pair_arc, rules, arcs_of, NameActivities}

@@ -1,7 +1,7 @@
 -- What right fates of the ordered pairs give: children of the node, which stand for all that keeps one of
 -- the pairs.
-use Rattle.std.proofs.Common.{◌≡◌, sym, zero, suc, ◌≤◌, List, [], ◌∷◌, ◌++◌, length, ◌⊎◌, inl, inr, ⊎_elim, arith}
-use Rattle.std.proofs.Common.{append_assoc, append-nil, subst, Option, Some, None, ℤ, ◌≤ℤ◌, ◌<ℤ◌}
+use Rattle.std.proofs.Common.{◌≡◌, sym, zero, suc, ◌≤◌, List, [], ◌∷◌, ◌++◌, length, ◌⊎◌, inl, inr, ⊎_elim, arith, append_assoc, append-nil, subst, Option}
+use Rattle.std.proofs.Common.{Some, None, ℤ, ◌≤ℤ◌, ◌<ℤ◌}
 use Rattle.std.specs.List.{All, Any}
 use Rattle.std.proofs.lemmas.Int.{ints}
 use Rattle.std.proofs.lemmas.List.Elements.{All-nil, All-cons, All-push, All-head, All-tail}

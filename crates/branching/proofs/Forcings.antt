@@ -1,8 +1,7 @@
 -- A forced pair is kept by every schedule that the node stands for, since activities that can't run at
 -- the same time don't overlap.
-use Rattle.std.proofs.Common.{◌≡◌, List, [], ◌∷◌, ◌++◌, arith, append_assoc, append-nil, refl, sym, ap, ◌∙◌, ℕ, suc}
-use Rattle.std.proofs.Common.{◌+◌, ◌<◌, Bool, true, false, ℤ, pos, ◌+ℤ◌, ◌<ℤ◌, Option, Some, None, length, take, drop}
-use Rattle.std.proofs.Common.{get_or, ◌↔◌, subst, ◌≤ℤ◌, neg_ℤ}
+use Rattle.std.proofs.Common.{◌≡◌, List, [], ◌∷◌, ◌++◌, arith, append_assoc, append-nil, refl, sym, ap, ◌∙◌, ℕ, suc, ◌+◌, ◌<◌, Bool, true, false, ℤ, pos, ◌+ℤ◌}
+use Rattle.std.proofs.Common.{◌<ℤ◌, Option, Some, None, length, take, drop, get_or, ◌↔◌, subst, ◌≤ℤ◌, neg_ℤ}
 use Rattle.std.proofs.lemmas.Int.{ints, by_lt_z}
 use Rattle.std.proofs.lemmas.List.Elements.{All-push, All-nil, All-cons, All-head, All-tail, All-append, All-contains, Contains-get_or, Contains-append_right}
 use Rattle.network.specs.declared.parts.Pair.{Pair}

@@ -1,7 +1,6 @@
 -- What a searcher keeps while pairs are added and taken away.
-use Rattle.std.proofs.Common.{◌≡◌, refl, sym, ◌∙◌, ap, subst, ℕ, ◌+◌, ◌-◌, ◌<◌, ◌≤◌, suc, arith, pos, ◌<ℤ◌, ◌≤ℤ◌, None}
-use Rattle.std.proofs.Common.{Some, inl, inr, List, [], ◌∷◌, ◌++◌, map, length, take, drop, get_or, length-append}
-use Rattle.std.proofs.Common.{add-one, append_assoc, slice_get}
+use Rattle.std.proofs.Common.{◌≡◌, refl, sym, ◌∙◌, ap, subst, ℕ, ◌+◌, ◌-◌, ◌<◌, ◌≤◌, suc, arith, pos, ◌<ℤ◌, ◌≤ℤ◌, None, Some, inl, inr, List, [], ◌∷◌, ◌++◌}
+use Rattle.std.proofs.Common.{map, length, take, drop, get_or, length-append, add-one, append_assoc, slice_get}
 use Rattle.std.proofs.lemmas.Int.{ints}
 use Rattle.std.proofs.Math.Seq.{take-append_seam, take-suc}
 use Rattle.std.proofs.lemmas.List.{take_all, take-append-drop, map-append}

@@ -1,5 +1,5 @@
 -- What is done to files in two parts, or not at all.
-use Rattle.std.proofs.Common.{◌≡◌, List, [], ◌++◌, Option, Some, None, option_map, refl, sym, ap, ◌∙◌, append_assoc, append-nil}
+use Rattle.std.proofs.Common.{List, [], ◌++◌, Option, Some, None, option_map, refl, sym, ap, ◌∙◌, append_assoc, append-nil}
 use Rattle.calls.specs.Files.{Act, AddsActs}
 
 pub adds_nothing : (a : Option (List Act)) → AddsActs a [] a

@@ -1,7 +1,6 @@
 -- Dropping from a forbidden set until no member can be spared leaves a minimal one.
-use Rattle.std.proofs.Common.{◌≡◌, ℕ, zero, suc, ◌+◌, ◌<◌, ◌≤◌, cond, eqb, List, [], ◌∷◌, length, get_or, refl, ⊎_elim}
-use Rattle.std.proofs.Common.{arith, add-one, Bool, true, false, ◌++◌, take, drop, map, sym, ap, ◌∙◌, ◌-◌, inl, inr}
-use Rattle.std.proofs.Common.{Ordering}
+use Rattle.std.proofs.Common.{◌≡◌, ℕ, zero, suc, ◌+◌, ◌<◌, ◌≤◌, cond, eqb, List, [], ◌∷◌, length, get_or, refl, ⊎_elim, arith, add-one, Bool, true, false, ◌++◌}
+use Rattle.std.proofs.Common.{take, drop, map, sym, ap, ◌∙◌, ◌-◌, inl, inr, Ordering}
 use Rattle.std.specs.List.{All, sum_by, AllPairs, Contains, filter, sum}
 use Rattle.std.specs.List.Sorted.{IsStrictlyIncreasing, IsNonDecreasing, IsPermutation, IsSorted}
 use Rattle.std.proofs.lemmas.Bool.{cases_lt}

@@ -1,6 +1,6 @@
 -- With a deadline every activity reaches every other: by the end, the deadline and the start.
-use Rattle.std.proofs.Common.{◌≡◌, refl, subst, append-nil, ℕ, zero, suc, ◌<◌, ◌≤◌, ⊎_elim, arith, ℤ, pos, neg_ℤ, ◌+ℤ◌}
-use Rattle.std.proofs.Common.{◌≤ℤ◌, List, [], ◌∷◌, ◌++◌, map, length, Option, None, Some}
+use Rattle.std.proofs.Common.{◌≡◌, refl, subst, append-nil, ℕ, zero, suc, ◌<◌, ◌≤◌, ⊎_elim, arith, ℤ, pos, neg_ℤ, ◌+ℤ◌, ◌≤ℤ◌, List, [], ◌∷◌, ◌++◌, map, length}
+use Rattle.std.proofs.Common.{Option, None, Some}
 use Rattle.std.specs.List.{Contains, range_with_len}
 use Rattle.std.proofs.lemmas.Bool.{cases_lt}
 use Rattle.std.proofs.lemmas.Int.{ints}

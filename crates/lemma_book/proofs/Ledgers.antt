@@ -1,7 +1,6 @@
 -- A ledger stays sound.
-use Rattle.std.proofs.Common.{Bool, true, false, refl, ◌≡◌, sym, ap, subst, ℕ, ◌+◌, ◌-◌, ◌<◌, arith, ℤ, pos, ◌+ℤ◌, ◌≤ℤ◌}
-use Rattle.std.proofs.Common.{◌<ℤ◌, ⊎_elim, slice_set, List, [], ◌∷◌, ◌++◌, append_assoc, Option, None, Some}
-use Rattle.std.proofs.Common.{MatchOption}
+use Rattle.std.proofs.Common.{Bool, true, false, refl, ◌≡◌, sym, ap, subst, ℕ, ◌+◌, ◌-◌, ◌<◌, arith, ℤ, pos, ◌+ℤ◌, ◌≤ℤ◌, ◌<ℤ◌, ⊎_elim, slice_set, List, [], ◌∷◌}
+use Rattle.std.proofs.Common.{◌++◌, append_assoc, Option, None, Some, MatchOption}
 use Rattle.std.specs.List.{All}
 use Rattle.std.proofs.lemmas.Int.{ints, by_lt_z}
 use Rattle.std.proofs.lemmas.List.Elements.{All-append, All-head, All-nil, All-push}
@@ -15,9 +14,8 @@ use Rattle.lemma_proof.specs.declared.line.Line.{Line}
 use Rattle.lemma_proof.specs.Lines.{IsArc, IsIn, IsRefuted, MeetsNone, Slots, impossible}
 use Rattle.lemma_book.specs.declared.deadline.TheConstants.{MAX_CEILING}
 use Rattle.lemma_book.proofs.TooMuch.{too_much_out}
-use Rattle.lemma_book.specs.Ledger.{IsDraft, IsRootMatrixOf, IsSound, Leads, LedgerOf, MayLead, MayTake, asks_too_much}
-use Rattle.lemma_book.specs.Ledger.{ceiling_of, deadline, first_roots, own_of, root_of, with_lemma, with_schedule}
-use Rattle.lemma_book.specs.Ledger.{with_slot, without_lemma}
+use Rattle.lemma_book.specs.Ledger.{IsDraft, IsRootMatrixOf, IsSound, Leads, LedgerOf, MayLead, MayTake, asks_too_much, ceiling_of, deadline, first_roots}
+use Rattle.lemma_book.specs.Ledger.{own_of, root_of, with_lemma, with_schedule, with_slot, without_lemma}
 use Rattle.lemma_book.specs.Premises.{PremisesOf, first_premises, ledger_of}
 use Rattle.lemma_book.proofs.Slotted.{in_emptied, in_shelved}
 use Rattle.lemma_proof.proofs.Truth.{none_meets_refuted}

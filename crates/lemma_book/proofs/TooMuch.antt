@@ -1,6 +1,6 @@
 -- Where an activity alone asks for too much there is no schedule.
-use Rattle.std.proofs.Common.{ℕ, ◌<◌, ◌+◌, List, [], ◌∷◌, ◌++◌, get_or, arith, ℤ, pos, ◌+ℤ◌, ◌<ℤ◌, ◌≤ℤ◌, ◌≡◌, refl}
-use Rattle.std.proofs.Common.{Bool, true, false, ◌&&◌, int_lt, nat_lt, length, slice_index_or}
+use Rattle.std.proofs.Common.{ℕ, ◌<◌, ◌+◌, List, [], ◌∷◌, ◌++◌, get_or, arith, ℤ, pos, ◌+ℤ◌, ◌<ℤ◌, ◌≤ℤ◌, ◌≡◌, refl, Bool, true, false, ◌&&◌, int_lt, nat_lt}
+use Rattle.std.proofs.Common.{length, slice_index_or}
 use Rattle.std.specs.List.{All, Any, Contains, range_with_len}
 use Rattle.std.proofs.lemmas.Bool.{ltb-true}
 use Rattle.std.proofs.lemmas.Int.{ints}

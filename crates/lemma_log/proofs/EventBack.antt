@@ -1,6 +1,6 @@
 -- Events are read back.
-use Rattle.std.proofs.Common.{◌≡◌, ◌≤◌, ◌<◌, ℕ, suc, ◌+◌, ◌*◌, ◌/◌, ◌%◌, ◌^◌, ℤ, List, [], ◌++◌, length, false, Some}
-use Rattle.std.proofs.Common.{option_map, Ok, refl, sym, ap, ◌∙◌, append_assoc, arith}
+use Rattle.std.proofs.Common.{◌≡◌, ◌≤◌, ◌<◌, ℕ, suc, ◌+◌, ◌*◌, ◌/◌, ◌%◌, ◌^◌, ℤ, List, [], ◌++◌, length, false, Some, option_map, Ok, refl, sym, ap, ◌∙◌}
+use Rattle.std.proofs.Common.{append_assoc, arith}
 use Rattle.std.specs.List.{flat_map, AllByRecursion}
 use Rattle.std.proofs.lemmas.List.{append-nil, length-append}
 use Rattle.std.proofs.lemmas.Bool.{le-ltb}
@@ -13,10 +13,10 @@ use Rattle.lemma_log.specs.declared.event.Event.TheVariants as event
 use Rattle.network.specs.declared.verdict.Verdict.{Verdict}
 use Rattle.network.specs.declared.verdict.Verdict.TheVariants as verdict
 use Rattle.lemma_log.specs.Numbers.{digits_in, number_text, signed_text}
-use Rattle.lemma_log.specs.Text.{arc_text, line_text, claim_text, body_text, event_text, IsIndex, IsAmount}
-use Rattle.lemma_log.specs.Text.{IsWritableArc, IsWritableClaim, IsWritableBody, IsWritable}
-use Rattle.lemma_log.specs.Reading.{then_read, many_in, signed_in, arc_in, last, lemma_lines, event_of, event_in}
-use Rattle.lemma_log.specs.Reading.{is_long, is_long_at, whole_in, known, cut, frame_in, with_left, framed, read_in}
+use Rattle.lemma_log.specs.Text.{arc_text, line_text, claim_text, body_text, event_text, IsIndex, IsAmount, IsWritableArc, IsWritableClaim, IsWritableBody}
+use Rattle.lemma_log.specs.Text.{IsWritable}
+use Rattle.lemma_log.specs.Reading.{then_read, many_in, signed_in, arc_in, last, lemma_lines, event_of, event_in, is_long, is_long_at, whole_in, known, cut}
+use Rattle.lemma_log.specs.Reading.{frame_in, with_left, framed, read_in}
 use Rattle.lemma_log.proofs.Digits.{number_again}
 use Rattle.lemma_log.proofs.PartsBack.{number_back, opened, amount_back, many_back, lag_back}
 use Rattle.lemma_log.proofs.LineBack.{lines_back}

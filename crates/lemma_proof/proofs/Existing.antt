@@ -1,6 +1,6 @@
 -- The matrix of arcs of which no closed walk is positive.
-use Rattle.std.proofs.Common.{◌≡◌, refl, sym, ap, subst, ℕ, ◌<◌, arith, pos, ◌≤ℤ◌, List, [], ◌∷◌, ◌++◌, length, Some}
-use Rattle.std.proofs.Common.{append_assoc, ◌∙◌, neg_ℤ, take, drop, get_or, ◌+◌}
+use Rattle.std.proofs.Common.{◌≡◌, refl, sym, ap, subst, ℕ, ◌<◌, arith, pos, ◌≤ℤ◌, List, [], ◌∷◌, ◌++◌, length, Some, append_assoc, ◌∙◌, neg_ℤ, take, drop}
+use Rattle.std.proofs.Common.{get_or, ◌+◌}
 use Rattle.std.specs.List.{Contains}
 use Rattle.std.proofs.lemmas.Int.{ints}
 use Rattle.std.proofs.lemmas.List.{take_more, take-append-drop}

@@ -12,9 +12,8 @@ use Rattle.network.specs.Problem.{IsWithin}
 use Rattle.network.specs.Schedule.{start, Meets}
 use Rattle.network.specs.Walk.{weight, IsMatrixOf, HasPositiveCycle, HasNoPositiveCycle, Rows, entry}
 use Rattle.network.proofs.Schedules.{walk_holds}
-use Rattle.longest_path.specs.Insert.{ClosesNone, arc_of, rows_over}
-use Rattle.longest_path.proofs.Inserted.{entry-rows_over, length-rows_over}
-use Rattle.longest_path.specs.Matrix.{IsSquare, greater}
+use Rattle.longest_path.specs.Insert.{arc_of}
+use Rattle.longest_path.specs.Matrix.{IsSquare}
 use Rattle.longest_path.proofs.OneArc.{IsGreatest-matrix}
 use Rattle.longest_path.proofs.Over.{transitive}
 use Rattle.longest_path.proofs.Reach.{same_some}
@@ -23,12 +22,11 @@ use Rattle.lemma_proof.specs.Implied.{Implies, AreReached}
 use Rattle.lemma_proof.specs.Heads.{HeadsOf, IsLight, IsTable, IsRowAt}
 use Rattle.lemma_proof.specs.Rising.{AreAmong, AreThereAndBack, HaveRisen, IsLate, IsRisenBy, MeetEach}
 use Rattle.lemma_proof.specs.Block.{converse_of, AreEnds, AreReaching, IsBlock, IsToldOf, told_by}
-use Rattle.lemma_proof.specs.Halves.{AreConverse, AreHalves, AreLate, AreMet, AreRaised, AreRooted, AreToldBoth, AreTried, HaveBothRisen, IsCovered, IsListed}
-use Rattle.lemma_proof.specs.Halves.{MayList, block_of, converses}
+use Rattle.lemma_proof.specs.Halves.{AreConverse, AreHalves, AreLate, AreMet, AreRaised, AreToldBoth, AreTried, HaveBothRisen, IsCovered, IsListed, MayList}
+use Rattle.lemma_proof.specs.Halves.{block_of, converses}
 use Rattle.lemma_proof.proofs.Converse.{converse_back, converse_there, reached_back}
 use Rattle.lemma_proof.proofs.Implying.{implied_part, implied_entry, implied_arc, implied_joined}
 use Rattle.lemma_proof.proofs.Rising.{at_home, there_small}
-use Rattle.lemma_proof.proofs.Rooting.{table_over}
 
 -- ---- the other direction
 

@@ -1,6 +1,6 @@
 -- The arcs of a block, as they are added.
-use Rattle.std.proofs.Common.{◌≡◌, sym, ap, ◌∙◌, subst, ℕ, Bool, true, false, not, is_some, arith, List, ◌++◌, ◌∷◌, []}
-use Rattle.std.proofs.Common.{length, append_assoc, Option, None, Some, MatchOption}
+use Rattle.std.proofs.Common.{◌≡◌, sym, ap, ◌∙◌, subst, ℕ, Bool, true, false, not, is_some, arith, List, ◌++◌, ◌∷◌, [], length, append_assoc, Option, None}
+use Rattle.std.proofs.Common.{Some, MatchOption}
 use Rattle.std.specs.Bool.{MatchBool}
 use Rattle.std.proofs.lemmas.Bool.{false≢true}
 use Rattle.std.proofs.lemmas.Int.{ints}

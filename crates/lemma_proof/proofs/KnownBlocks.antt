@@ -1,6 +1,6 @@
 -- What is known of a block and of its trial.
-use Rattle.std.proofs.Common.{◌≡◌, refl, sym, subst, ℕ, ◌<◌, arith, ℤ, ◌≤ℤ◌, ◌⊎◌, inl, inr, ⊎_elim, Bool, IsTrue, List}
-use Rattle.std.proofs.Common.{[], ◌∷◌, ◌++◌, length, append_assoc, Option, None, Some, false}
+use Rattle.std.proofs.Common.{◌≡◌, refl, sym, subst, ℕ, ◌<◌, arith, ℤ, ◌≤ℤ◌, ◌⊎◌, inl, inr, ⊎_elim, Bool, IsTrue, List, [], ◌∷◌, ◌++◌, length, append_assoc}
+use Rattle.std.proofs.Common.{Option, None, Some, false}
 use Rattle.std.specs.List.{Contains}
 use Rattle.std.proofs.lemmas.Int.{ints, by_lt_z}
 use Rattle.network.specs.declared.parts.Lag.{Lag}

@@ -1,6 +1,6 @@
 -- Weights of walks that are easily seen, and what is known by them or by a matrix.
-use Rattle.std.proofs.Common.{◌≡◌, refl, sym, ap, ◌∙◌, subst, ℕ, ◌<◌, arith, ℤ, ◌+ℤ◌, Bool, true, false, eqb, inl, inr}
-use Rattle.std.proofs.Common.{List, [], ◌++◌, length, get_or, Option, None, Some, if◌then◌else◌, IsTrue, ◌∷◌}
+use Rattle.std.proofs.Common.{◌≡◌, refl, sym, ap, ◌∙◌, subst, ℕ, ◌<◌, arith, ℤ, ◌+ℤ◌, Bool, true, false, eqb, inl, inr, List, [], ◌++◌, length, get_or, Option}
+use Rattle.std.proofs.Common.{None, Some, if◌then◌else◌, IsTrue, ◌∷◌}
 use Rattle.std.proofs.lemmas.Bool.{eqb-true, false≢true}
 use Rattle.std.proofs.lemmas.List.Elements.{Contains-append_cases, Contains-append_left, Contains-append_right}
 use Rattle.std.proofs.lemmas.List.FromFn.{get_or-map-range_with_len, length-map-range_with_len}

@@ -1,6 +1,6 @@
 -- What a loop over a list that stops at the first element without a property knows.
-use Rattle.std.proofs.Common.{◌≡◌, refl, ◌+◌, ◌<◌, ◌≤◌, ◌⊎◌, inr, ⊎_elim, arith, Bool, ℕ, List, length, get_or, take}
-use Rattle.std.proofs.Common.{true, false, IsTrue, ◌↔◌, slice_index, sym, ◌∙◌}
+use Rattle.std.proofs.Common.{◌≡◌, refl, ◌+◌, ◌<◌, ◌≤◌, ◌⊎◌, inr, ⊎_elim, arith, Bool, ℕ, List, length, get_or, take, true, false, IsTrue, ◌↔◌, slice_index}
+use Rattle.std.proofs.Common.{sym, ◌∙◌}
 use Rattle.std.specs.List.{All, AllPairs}
 use Rattle.lemma_proof.specs.Reasons.{Tells}
 use Rattle.std.proofs.lemmas.List.{take_all, get_or-take, get_or_default, length-take-le}

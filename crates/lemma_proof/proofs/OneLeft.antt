@@ -1,6 +1,6 @@
 -- The arc that a lemma leaves, as the loop over its arcs finds it.
-use Rattle.std.proofs.Common.{◌≡◌, ◌≢◌, refl, sym, ◌∙◌, ℕ, ◌<◌, ◌≤◌, ◌+◌, arith, ⊎_elim, Bool, true, false, is_some}
-use Rattle.std.proofs.Common.{List, length, Option, None, Some, slice_get, IfSome, MatchOption, [], ◌∷◌}
+use Rattle.std.proofs.Common.{◌≡◌, ◌≢◌, refl, sym, ◌∙◌, ℕ, ◌<◌, ◌≤◌, ◌+◌, arith, ⊎_elim, Bool, true, false, is_some, List, length, Option, None, Some}
+use Rattle.std.proofs.Common.{slice_get, IfSome, MatchOption, [], ◌∷◌}
 use Rattle.std.specs.List.{Contains}
 use Rattle.std.proofs.lemmas.Bool.{cases_eq, cases_lt, false≢true}
 use Rattle.std.specs.Option.{option_or}

@@ -1,6 +1,6 @@
 -- Passes over arcs by which weights rise.
-use Rattle.std.proofs.Common.{◌≡◌, refl, sym, subst, ℕ, ◌+◌, ◌<◌, ◌≤◌, arith, inl, inr, ◌⊎◌, ⊎_elim, ℤ, Bool, true}
-use Rattle.std.proofs.Common.{false, List, [], ◌∷◌, length, take, get_or, None, Some, Option, ◌≤ℤ◌, ◌+ℤ◌, pos}
+use Rattle.std.proofs.Common.{◌≡◌, refl, sym, subst, ℕ, ◌+◌, ◌<◌, ◌≤◌, arith, inl, inr, ◌⊎◌, ⊎_elim, ℤ, Bool, true, false, List, [], ◌∷◌, length, take, get_or}
+use Rattle.std.proofs.Common.{None, Some, Option, ◌≤ℤ◌, ◌+ℤ◌, pos}
 use Rattle.std.specs.Bool.{MatchBool}
 use Rattle.std.specs.List.{All, Contains}
 use Rattle.std.proofs.lemmas.Int.{ints}

@@ -1,6 +1,5 @@
 -- The two halves of a block take an arc into the matrix.
-use Rattle.std.proofs.Common.{◌≡◌, refl, sym, ◌∙◌, ap, subst, ◌<◌, arith, ℤ, ◌+ℤ◌, [], length}
-use Rattle.std.proofs.Common.{Some}
+use Rattle.std.proofs.Common.{◌≡◌, refl, sym, ◌∙◌, ap, subst, ◌<◌, arith, ℤ, ◌+ℤ◌, [], length, Some}
 use Rattle.std.proofs.lemmas.Int.{ints}
 use Rattle.network.specs.declared.parts.Lag.{Lag}
 use Rattle.network.specs.Walk.{Rows, entry}

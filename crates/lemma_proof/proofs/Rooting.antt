@@ -1,7 +1,6 @@
 -- A table that takes the ways over an arc, row after row.
-use Rattle.std.proofs.Common.{◌≡◌, refl, sym, ◌∙◌, ap, subst, ℕ, ◌+◌, ◌<◌, ◌≤◌, ◌≢◌, arith, inl, inr, ℤ, pos, ◌+ℤ◌}
-use Rattle.std.proofs.Common.{◌≤ℤ◌, List, [], Some, None, Option, map, length, get_or, get_or-set_same}
-use Rattle.std.proofs.Common.{get_or-set_other}
+use Rattle.std.proofs.Common.{◌≡◌, refl, sym, ◌∙◌, ap, subst, ℕ, ◌+◌, ◌<◌, ◌≤◌, ◌≢◌, arith, inl, inr, ℤ, pos, ◌+ℤ◌, ◌≤ℤ◌, List, [], Some, None, Option, map}
+use Rattle.std.proofs.Common.{length, get_or, get_or-set_same, get_or-set_other}
 use Rattle.std.proofs.Math.ListN.{set}
 use Rattle.std.specs.Int.{int_max}
 use Rattle.std.proofs.lemmas.Bool.{cases_eq}

@@ -1,6 +1,6 @@
 -- What a line shows is met, so refuted arcs are not all met.
-use Rattle.std.proofs.Common.{ℕ, List, [], get_or, arith, ℤ, pos, ◌+ℤ◌, ◌-ℤ◌, ◌≤ℤ◌, ◌≡◌, sym, ◌∙◌, subst, ⊎_elim, ◌⊎◌}
-use Rattle.std.proofs.Common.{inl, inr, ◌∷◌, ◌++◌, Option, None, Some, slice_get}
+use Rattle.std.proofs.Common.{ℕ, List, [], get_or, arith, ℤ, pos, ◌+ℤ◌, ◌-ℤ◌, ◌≤ℤ◌, ◌≡◌, sym, ◌∙◌, subst, ⊎_elim, ◌⊎◌, inl, inr, ◌∷◌, ◌++◌, Option, None, Some}
+use Rattle.std.proofs.Common.{slice_get}
 use Rattle.std.specs.List.{All, Contains}
 use Rattle.std.proofs.lemmas.Bool.{cases_eq}
 use Rattle.std.proofs.lemmas.Int.{ints, by_lt_z}

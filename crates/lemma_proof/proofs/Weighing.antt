@@ -1,6 +1,6 @@
 -- Sums of weights of walks and of a reverse are small, and what an entry says of an arc.
-use Rattle.std.proofs.Common.{◌≡◌, refl, subst, ℕ, ◌<◌, arith, ℤ, ◌+ℤ◌, ◌≤ℤ◌, ◌<ℤ◌, List, [], ◌∷◌, ◌++◌, length, Option}
-use Rattle.std.proofs.Common.{None, Some, w64, FitsSigned, ◌↔◌, IsTrue}
+use Rattle.std.proofs.Common.{◌≡◌, refl, subst, ℕ, ◌<◌, arith, ℤ, ◌+ℤ◌, ◌≤ℤ◌, ◌<ℤ◌, List, [], ◌∷◌, ◌++◌, length, Option, None, Some, w64, FitsSigned, ◌↔◌}
+use Rattle.std.proofs.Common.{IsTrue}
 use Rattle.std.specs.Int.Signed.{le_z, lt_z}
 use Rattle.std.proofs.lemmas.Int.{ints, by_lt_z}
 use Rattle.network.specs.declared.parts.Lag.{Lag}
@@ -10,8 +10,7 @@ use Rattle.network.specs.Walk.{Rows, entry, weight, IsGreatestWeight, IsMatrixOf
 use Rattle.longest_path.specs.Insert.{rows_over, ClosesNone}
 use Rattle.longest_path.proofs.Inserted.{length-rows_over, AddsArc-rows_over}
 use Rattle.lemma_proof.specs.declared.weights.TheConstants.{MAX_REVERSE_WEIGHT, MAX_WAY_WEIGHT}
-use Rattle.lemma_proof.specs.Reasons.{Implies, rows_with}
-use Rattle.lemma_proof.specs.Reasons.{reverse_of}
+use Rattle.lemma_proof.specs.Reasons.{Implies, rows_with, reverse_of}
 use Rattle.std.specs.List.{Contains}
 use Rattle.network.specs.Schedule.{start, Meets}
 use Rattle.network.proofs.Schedules.{walk_holds}

@@ -1,8 +1,7 @@
 -- What runs in a window, unit by unit.
-use Rattle.std.proofs.Common.{◌≡◌, ℕ, ◌+◌, ◌-◌, ◌*◌, ◌<◌, ◌≤◌, cond, ⊎_elim, List, ap, arith, ℤ, pos, negsuc, ◌+ℤ◌}
-use Rattle.std.proofs.Common.{◌-ℤ◌, ◌≤ℤ◌, suc, inl, inr, Bool, true, false, [], ◌∷◌, get_or, length, refl, ◌⊎◌, Option}
-use Rattle.std.proofs.Common.{None, Some, ◌<ℤ◌, ◌&&◌, int_le, int_lt, unsigned_abs, map-id}
-use Rattle.std.specs.List.{All, sum_by, AllPairs, Contains, range_with_len}
+use Rattle.std.proofs.Common.{◌≡◌, ℕ, ◌+◌, ◌-◌, ◌*◌, ◌<◌, ◌≤◌, cond, ⊎_elim, List, ap, arith, ℤ, pos, negsuc, ◌+ℤ◌, ◌-ℤ◌, ◌≤ℤ◌, suc, inl, inr, Bool, true}
+use Rattle.std.proofs.Common.{false, [], ◌∷◌, get_or, length, refl, ◌⊎◌, Option, None, Some, ◌<ℤ◌, ◌&&◌, int_le, int_lt, unsigned_abs, map-id}
+use Rattle.std.specs.List.{All, sum_by, AllPairs, range_with_len}
 use Rattle.std.proofs.lemmas.Int.{ints, by_lt_z, clamps}
 use Rattle.std.proofs.lemmas.List.Elements.{All-from_get_or, All-head, All-tail}
 use Rattle.std.proofs.lemmas.List.FromFn.{get_or-range_with_len, length-range_with_len, sum_by-map-range_with_len_more}
@@ -12,8 +11,8 @@ use Rattle.network.specs.Schedule.{start, is_running, IsFeasible}
 use Rattle.longest_path.specs.Insert.{arc_of}
 use Rattle.bounds.proofs.Tasks.{over, over-const, over-sum_by, over-span, sum_by-filter, sum_by-le-each, abs_is}
 use Rattle.forbidden_sets.proofs.Apart.{runs_when, apart, BeginsFrom}
-use Rattle.lemma_proof.specs.Reasons.{AreBelow, Entries, Implies, MustRun, IsLoad, pair_of, RunsWithin, StartsAfterEnd}
-use Rattle.lemma_proof.specs.Reasons.{RunApart, IsClique, least_part, part_of, load_of}
+use Rattle.lemma_proof.specs.Reasons.{AreBelow, Entries, Implies, MustRun, IsLoad, pair_of, RunsWithin, StartsAfterEnd, RunApart, IsClique, least_part, part_of}
+use Rattle.lemma_proof.specs.Reasons.{load_of}
 use Rattle.lemma_proof.proofs.Implying.{implied_lower}
 use Rattle.lemma_proof.proofs.Weighing.{MeetsAll, implied_met}
 use Rattle.std.proofs.lemmas.List.Sums.{sum_by-cons}

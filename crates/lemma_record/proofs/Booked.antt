@@ -1,6 +1,6 @@
 -- A log gets one event more.
-use Rattle.std.proofs.Common.{◌≡◌, ℕ, ◌^◌, ◌<◌, ◌≤◌, List, [], ◌∷◌, ◌++◌, get_or, length, slice_get, Option, None, Some}
-use Rattle.std.proofs.Common.{MatchOption, Vec, Bor, ℤ, sym, ap, ◌∙◌, subst, refl, ⊎_elim, pos, arith}
+use Rattle.std.proofs.Common.{◌≡◌, ℕ, ◌^◌, ◌<◌, ◌≤◌, List, [], ◌∷◌, ◌++◌, get_or, length, slice_get, Option, None, Some, MatchOption, Vec, Bor, ℤ, sym, ap, ◌∙◌}
+use Rattle.std.proofs.Common.{subst, refl, ⊎_elim, pos, arith}
 use Rattle.std.specs.Prelude.{IfSome, IsSomeAnd}
 use Rattle.std.specs.List.{AllByRecursion}
 use Rattle.std.specs.declared.alloc.Global.{Global}

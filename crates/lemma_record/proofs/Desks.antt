@@ -1,6 +1,6 @@
 -- What waits at a desk stays shown, and a book may take it.
-use Rattle.std.proofs.Common.{Bool, true, false, ◌≡◌, refl, sym, subst, ℕ, ◌<◌, arith, List, [], ◌∷◌, ◌++◌, length}
-use Rattle.std.proofs.Common.{Option, None, Some, MatchOption, is_some, not, Bor, IsTrue, inl, inr, ◌⊎◌}
+use Rattle.std.proofs.Common.{Bool, true, false, ◌≡◌, refl, sym, subst, ℕ, ◌<◌, arith, List, [], ◌∷◌, ◌++◌, length, Option, None, Some, MatchOption, is_some}
+use Rattle.std.proofs.Common.{not, Bor, IsTrue, inl, inr, ◌⊎◌}
 use Rattle.std.proofs.lemmas.Bool.{false≢true}
 use Rattle.std.proofs.lemmas.List.{append-nil}
 use Rattle.network.specs.declared.parts.Lag.{Lag}

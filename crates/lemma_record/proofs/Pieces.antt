@@ -1,9 +1,6 @@
 -- Beginnings of one history, and the text of one piece more.
-use Rattle.std.proofs.Common.{◌≡◌, ℕ, ◌≤◌, List, [], ◌∷◌, ◌++◌, length, refl, ap, ◌∙◌, arith}
-use Rattle.std.proofs.lemmas.Grind.{flat_map-append}
-use Rattle.std.proofs.lemmas.List.{append-nil}
+use Rattle.std.proofs.Common.{◌≡◌, ◌≤◌, List, [], ◌∷◌, length, refl, arith}
 use mathlib.Core.List.{IsPrefix}
-use Rattle.lemma_record.specs.History.{Piece, joined}
 
 -- a beginning as long as the whole is the whole
 pub prefix_whole : {A : Type 0} (xs ys : List A) → IsPrefix xs ys → length ys ≤ length xs → xs ≡ ys
@@ -23,7 +20,3 @@ prefix_same (x ∷ xs) (y ∷ ys) (z ∷ zs) p q same =
     let heads : x ≡ y = cc (p.1, q.1) in
     let rest = prefix_same xs ys zs (p.0, cc (p.1)) (q.0, cc (q.1)) (omega arith) in
     cc (heads, rest)
-
-pub joined_more : (pieces : List Piece) (piece : Piece) → joined (pieces ++ piece ∷ []) ≡ joined pieces ++ piece.items
-joined_more pieces piece =
-    flat_map-append (λ (p : Piece). p.items) pieces (piece ∷ []) ∙ ap (λ (t : List ℕ). joined pieces ++ t) (append-nil piece.items)

@@ -1,5 +1,5 @@
 -- What a log proves as far as it goes.
-use Rattle.std.proofs.Common.{◌≡◌, subst, List, [], ℕ, Option, None, Some, MatchOption, inl, inr}
+use Rattle.std.proofs.Common.{◌≡◌, subst, List, [], ℕ, Option, Some, MatchOption, inl, inr}
 use Rattle.network.specs.Schedule.{IsTrueVerdict}
 use Rattle.network.specs.Problem.{IsProject, Problem}
 use Rattle.network.specs.declared.verdict.Verdict.{Verdict}
@@ -39,13 +39,6 @@ awaited p text x what all claims (inr event) =
       short = event.1;
       claims = claims;
     }))
-
-pub so_far_open : (p : Problem) (text : List ℕ) (x : CheckerOf) (what : Verdict) → x.part ≡ whole → x.proved ≡ None
-    → Claims x.ledger what → HasChecked p text x → IsProvedSoFar p text what
-so_far_open p text x what all is claims read =
-    awaited p text x what all claims (subst
-    (λ (proved : Option Verdict). MatchOption proved (Awaits p text x)
-    (λ (w : Verdict). HasClaimed x.part p text [] w x.due)) is read)
 
 here_true : (p : Problem) (l : LedgerOf) (what : Verdict) → IsProject p → IsSoundFor p l → Claims l what → IsTrueVerdict p what
 here_true p l what is sound claims = subst (λ (q : Problem). IsTrueVerdict q what) sound.project (claim_true l what (rw sound.project is) sound.sound claims)

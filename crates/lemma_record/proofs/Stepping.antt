@@ -1,7 +1,6 @@
 -- A log is checked event after event.
-use Rattle.std.proofs.Common.{◌≡◌, ◌≢◌, ℕ, ◌+◌, ◌-◌, ◌^◌, min, List, [], ◌∷◌, ◌++◌, length, drop, Result, Ok, Err}
-use Rattle.std.proofs.Common.{Option, None, Some, MatchOption, is_some, true, false, inl, inr, refl, sym, ap, ◌∙◌}
-use Rattle.std.proofs.Common.{subst, append_assoc, arith}
+use Rattle.std.proofs.Common.{◌≡◌, ◌≢◌, ℕ, ◌+◌, ◌-◌, ◌^◌, min, List, [], ◌∷◌, ◌++◌, length, drop, Result, Ok, Err, Option, None, Some, MatchOption, is_some}
+use Rattle.std.proofs.Common.{true, false, inl, inr, refl, sym, ap, ◌∙◌, subst, append_assoc, arith}
 use Rattle.std.specs.List.{AllByRecursion}
 use Rattle.std.proofs.lemmas.Bool.{false≢true}
 use Rattle.std.proofs.lemmas.List.{length-append}
@@ -18,12 +17,12 @@ use Rattle.lemma_log.specs.Logs.{AreFirst, Begins}
 use Rattle.lemma_log.proofs.CutOff.{IsStable, read_stable}
 use Rattle.lemma_book.specs.Ledger.{LedgerOf, first_ledger}
 use Rattle.lemma_book.proofs.Claims.{none_here}
-use Rattle.lemma_record.proofs.Titles.{form_stays, title_first}
+use Rattle.lemma_record.proofs.Titles.{title_first}
 use Rattle.lemma_record.specs.declared.fault.EventFault.{EventFault}
 use Rattle.lemma_record.specs.declared.fault.Wrong.{Wrong}
 use Rattle.lemma_record.specs.declared.fault.Wrong.TheVariants as wrong
 use Rattle.lemma_record.specs.Right.{IsStep, Takes, TakesAll}
-use Rattle.lemma_record.specs.Parts.{IsRightTextIn, PartOf, TakesIf, TakesPart, has, number_after}
+use Rattle.lemma_record.specs.Parts.{PartOf, TakesIf, TakesPart, has, number_after}
 use Rattle.lemma_record.specs.Faults.{IsFirstFault, IsWrongEvent, LeadsTo}
 use Rattle.lemma_record.specs.Reached.{Awaits, CheckerOf, HasClaimed, HasChecked, IsAt, IsAtTitle, TakesNext, checker_of, claimed}
 
@@ -181,18 +180,6 @@ wrong_found part p text more l left due fault at event is = inr (inl (record {
   next = inr (still_wrong l left more fault.wrong is);
 }))
 
-pub short_found : (part : PartOf) (p : Problem) (text : List ℕ) (l : LedgerOf) (left : List ℕ) (due : ℕ)
-    → IsAt part p text l left due → read_in left ≡ Err reading.Short
-    → IsFirstFault part p text (record { event = due; wrong = wrong.Short })
-short_found part p text l left due at short = inr (inl (record {
-  steps = at.steps;
-  ledger = l;
-  left = left;
-  leads = at.leads;
-  number = at.number;
-  next = inl (refl, short);
-}))
-
 some_more : (left more : List ℕ) → left ≢ [] → (left ++ more) ≢ []
 some_more [] more some is = some refl
 some_more (b ∷ left) more some is = cc
@@ -238,10 +225,6 @@ pub title_waits : (p : Problem) (text : List ℕ) (x : CheckerOf) → IsAtTitle 
 title_waits p text x at short = subst (λ (proved : Option Verdict).
     MatchOption proved (Awaits p text x) (λ what. HasClaimed x.part p text [] what x.due)) (sym at.going)
     (inl (at, short))
-
-pub title_wrong : (part : PartOf) (p : Problem) (text more : List ℕ) → title_in text ≡ Err reading.Form
-    → IsFirstFault part p (text ++ more) (record { event = 0; wrong = wrong.Form })
-title_wrong part p text more form = inl (record { number = refl; title = form_stays text more form })
 
 -- ---- a piece more
 

@@ -1,10 +1,8 @@
 -- Which bytes begin with the title of a log.
-use Rattle.std.proofs.Common.{◌≡◌, ◌≤◌, arith, Bool, true, false, ℕ, List, [], ◌∷◌, ◌++◌, if◌then◌else◌, length, drop}
-use Rattle.std.proofs.Common.{Result, Ok, Err, ◌⊎◌, inl, inr, ⊎_elim, refl, sym, ap, ◌∙◌, append_assoc}
+use Rattle.std.proofs.Common.{◌≡◌, Bool, true, false, ℕ, List, [], ◌∷◌, ◌++◌, if◌then◌else◌, length, drop, Result, Ok, Err, ◌⊎◌, inl, inr, ⊎_elim, refl}
 use Rattle.std.specs.Prelude.{nat_eq}
 use Rattle.std.specs.List.{starts_with}
 use Rattle.std.proofs.lemmas.Bool.{false≢true}
-use Rattle.std.proofs.lemmas.List.{length-append}
 use Rattle.std.proofs.lemmas.Bool.Decides.{Decides-eqb}
 use Rattle.std.proofs.lemmas.Slice.Eq.{starts_is}
 use Rattle.lemma_log.specs.declared.fault.DecodeFault.{DecodeFault}
@@ -20,16 +18,6 @@ by_ok : (begins ends : Bool) (n : ℕ) → title_by begins ends ≡ Ok n → (be
 by_ok true ends n h = (refl, let is : Ok (length title_text) ≡ Ok n = h in cc)
 by_ok false true n h = absurd (let is : Err Short ≡ Ok n = h in cc)
 by_ok false false n h = absurd (let is : Err Form ≡ Ok n = h in cc)
-
-by_form : (begins ends : Bool) → title_by begins ends ≡ Err Form → (begins ≡ false) × (ends ≡ false)
-by_form true ends h = absurd (let is : Ok (length title_text) ≡ Err Form = h in cc)
-by_form false true h = absurd (let is : Err Short ≡ Err Form = h in cc)
-by_form false false h = (refl, refl)
-
-is_form : (begins ends : Bool) → begins ≡ false → ends ≡ false → title_by begins ends ≡ Err Form
-is_form true ends h k = absurd (false≢true (sym h))
-is_form false true h k = absurd (false≢true (sym k))
-is_form false false h k = refl
 
 never : (b : Bool) → ¬ (b ≡ true) → b ≡ false
 never true not = absurd (not refl)
@@ -64,31 +52,6 @@ either_first (h ∷ a) x (k ∷ b) y is =
     (λ (r : IsPrefix b a). let rest = r.1 in inr (r.0, cc))
     (either_first a x b y tail)
 
--- bytes that begin with no title begin with none where more follow
-pub form_stays : (bytes more : List ℕ) → title_in bytes ≡ Err Form → title_in (bytes ++ more) ≡ Err Form
-form_stays bytes more h = is_form (starts_with nat_eq (bytes ++ more) title_text)
-    (starts_with nat_eq title_text (bytes ++ more)) (never _ no_title) (never _ no_end)
-  where
-    none : (starts_with nat_eq bytes title_text ≡ false) × (starts_with nat_eq title_text bytes ≡ false)
-    none = by_form (starts_with nat_eq bytes title_text) (starts_with nat_eq title_text bytes) h
-
-    not_first : (rest : List ℕ) → bytes ≡ title_text ++ rest → ⊥
-    not_first rest is = false≢true (sym none.0 ∙ starts bytes title_text rest is)
-
-    not_last : (rest : List ℕ) → title_text ≡ bytes ++ rest → ⊥
-    not_last rest is = false≢true (sym none.1 ∙ starts title_text bytes rest is)
-
-    no_title : ¬ (starts_with nat_eq (bytes ++ more) title_text ≡ true)
-    no_title begins =
-        ⊎_elim
-        (λ (r : IsPrefix bytes title_text). not_last r.0 r.1)
-        (λ (r : IsPrefix title_text bytes). not_first r.0 r.1)
-        (either_first bytes more title_text (drop (length title_text) (bytes ++ more)) (started (bytes ++ more) title_text begins))
-
-    no_end : ¬ (starts_with nat_eq title_text (bytes ++ more) ≡ true)
-    no_end ends = not_last (more ++ drop (length (bytes ++ more)) title_text)
-        (started title_text (bytes ++ more) ends ∙ append_assoc bytes more (drop (length (bytes ++ more)) title_text))
-
 is_ok : (begins ends : Bool) → begins ≡ true → title_by begins ends ≡ Ok (length title_text)
 is_ok true ends h = refl
 is_ok false ends h = absurd (false≢true h)
@@ -96,11 +59,3 @@ is_ok false ends h = absurd (false≢true h)
 -- bytes that begin with the title
 pub title_there : (bytes rest : List ℕ) → bytes ≡ title_text ++ rest → title_in bytes ≡ Ok (length title_text)
 title_there bytes rest is = is_ok (starts_with nat_eq bytes title_text) (starts_with nat_eq title_text bytes) (starts bytes title_text rest is)
-
--- so many bytes are there
-pub title_within : (bytes : List ℕ) (n : ℕ) → title_in bytes ≡ Ok n → n ≤ length bytes
-title_within bytes n h =
-    let begins = by_ok (starts_with nat_eq bytes title_text) (starts_with nat_eq title_text bytes) n h in
-    let is = started bytes title_text begins.0 in
-    let count : n ≡ length title_text = begins.1 in
-    omega (arith, ap length is, length-append title_text (drop (length title_text) bytes))

@@ -1,13 +1,12 @@
 -- The laws of rows that stand one after another in one list of cells.
-use Rattle.std.proofs.Common.{◌≡◌, ◌≢◌, refl, sym, ◌∙◌, ap, subst, ℕ, ◌+◌, ◌*◌, ◌-◌, ◌<◌, ◌≤◌, Option, None, Some, true}
-use Rattle.std.proofs.Common.{◌⊎◌, inl, inr, arith, ℤ, pos, ◌+ℤ◌, ◌≤ℤ◌, ◌<ℤ◌, List, [], ◌++◌, length, get_or, set, take}
-use Rattle.std.proofs.Common.{drop, get_or-set_same, get_or-set_other, suc, ◌/◌, replicate, length-append, length-drop}
-use Rattle.std.proofs.Common.{neg_ℤ, int_lt, if◌then◌else◌, IfSome, FitsSigned}
+use Rattle.std.proofs.Common.{◌≡◌, ◌≢◌, refl, sym, ◌∙◌, ap, subst, ℕ, ◌+◌, ◌*◌, ◌-◌, ◌<◌, ◌≤◌, Option, None, Some, true, ◌⊎◌, inl, inr, arith, ℤ, pos, ◌+ℤ◌}
+use Rattle.std.proofs.Common.{◌≤ℤ◌, ◌<ℤ◌, List, [], ◌++◌, length, get_or, set, take, drop, get_or-set_same, get_or-set_other, suc, ◌/◌, replicate}
+use Rattle.std.proofs.Common.{length-append, length-drop, neg_ℤ, int_lt, if◌then◌else◌, IfSome, FitsSigned}
 use Rattle.std.proofs.Math.Nat.{mul-le-mul_right, suc-mul}
 use Rattle.std.proofs.lemmas.Nat.{div-mul-add}
 use Rattle.std.proofs.Math.ListN.{get_or-eq_default}
-use Rattle.std.proofs.lemmas.List.{get_or-append_right, get_or_append_left, get_or-take, get_or-drop, length-take-le}
-use Rattle.std.proofs.lemmas.List.{get_or_default, get_or-replicate, drop-drop, length-replicate}
+use Rattle.std.proofs.lemmas.List.{get_or-append_right, get_or_append_left, get_or-take, get_or-drop, length-take-le, get_or_default, get_or-replicate}
+use Rattle.std.proofs.lemmas.List.{drop-drop, length-replicate}
 use borrow.Rule.Slice.PartMut.{put_mid}
 use Rattle.std.proofs.lemmas.List.Elements.{All-from_get_or}
 use Rattle.std.specs.Int.{w32}
@@ -16,8 +15,8 @@ use Rattle.std.proofs.lemmas.Int.{ints}
 use Rattle.std.proofs.lemmas.List.FromFn.{get_or-map-range_with_len, length-map-range_with_len}
 use Rattle.network.specs.declared.parts.Lag.{Lag}
 use Rattle.network.specs.Walk.{entry, Rows}
-use Rattle.longest_path.specs.Matrix.{greater, joined, IsSquare, IsRaised, IsRelaxed, IsRow, IsRowRelaxed, HasSmallSums}
-use Rattle.longest_path.specs.Matrix.{nothing, weight_of, weight_at, placed_at, row_of, rows_of}
+use Rattle.longest_path.specs.Matrix.{greater, joined, IsSquare, IsRaised, IsRelaxed, IsRow, IsRowRelaxed, HasSmallSums, nothing, weight_of, weight_at}
+use Rattle.longest_path.specs.Matrix.{placed_at, row_of, rows_of}
 use Rattle.longest_path.proofs.Reach.{greater_none}
 use Rattle.network.specs.declared.limits.TheConstants.{MAX_LAG_WEIGHT, MAX_WALK_WEIGHT}
 use Rattle.network.specs.Problem.{IsWithin}

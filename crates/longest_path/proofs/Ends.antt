@@ -1,6 +1,6 @@
 -- What the entries of a matrix from the start and to the end say: earliest starts and tails.
-use Rattle.std.proofs.Common.{◌≡◌, refl, ℕ, ◌+◌, ◌<◌, ◌≤◌, zero, suc, inl, inr, arith, ℤ, pos, ◌≤ℤ◌, List, [], ◌∷◌, map}
-use Rattle.std.proofs.Common.{Option, None, Some, length, sym, ap, ◌-◌, ◌+ℤ◌, ◌-ℤ◌, IfSome, FitsSigned}
+use Rattle.std.proofs.Common.{◌≡◌, refl, ℕ, ◌+◌, ◌<◌, ◌≤◌, zero, suc, inl, inr, arith, ℤ, pos, ◌≤ℤ◌, List, [], ◌∷◌, map, Option, None, Some, length, sym, ap}
+use Rattle.std.proofs.Common.{◌-◌, ◌+ℤ◌, ◌-ℤ◌, IfSome, FitsSigned}
 use Rattle.std.proofs.lemmas.Int.{ints}
 use Rattle.std.specs.List.{Contains, range_with_len, All}
 use Rattle.std.proofs.lemmas.Bool.{cases_eq}
@@ -8,8 +8,8 @@ use Rattle.std.proofs.lemmas.List.Elements.{Contains-append_right, All-from_get_
 use Rattle.std.proofs.lemmas.List.FromFn.{get_or-map-range_with_len, length-map-range_with_len}
 use Rattle.network.specs.declared.parts.Lag.{Lag}
 use Rattle.network.specs.declared.parts.Pair.{Pair}
-use Rattle.network.specs.Problem.{Problem, activity_count, end_of, duration, start_arc, end_arc, implied_arcs, arcs_of}
-use Rattle.network.specs.Problem.{IsProject, IsWithin, IsBetween, IsTime, IsAmount}
+use Rattle.network.specs.Problem.{Problem, activity_count, end_of, duration, start_arc, end_arc, implied_arcs, arcs_of, IsProject, IsWithin, IsBetween, IsTime}
+use Rattle.network.specs.Problem.{IsAmount}
 use Rattle.network.specs.Walk.{IsProjectMatrix, IsWalk, weight, entry, IsGreatestWeight, Rows, weights_from}
 use Rattle.network.proofs.FaultLaws.{AreLight-arcs_of}
 use Rattle.longest_path.proofs.Bound.{IsMatrixOf-within}

@@ -1,13 +1,12 @@
 -- A row that takes the way over one arc, entry by entry.
-use Rattle.std.proofs.Common.{◌≡◌, ◌≢◌, refl, sym, ◌∙◌, ap, subst, ℕ, ◌+◌, ◌<◌, ◌≤◌, Option, None, Some, ◌⊎◌, inl, inr}
-use Rattle.std.proofs.Common.{arith, ℤ, ◌+ℤ◌, List, [], ◌++◌, length, ◌-◌, Bool, true, false, ◌≤ℤ◌, ◌<ℤ◌, take, drop}
-use Rattle.std.proofs.Common.{length-drop, FitsSigned, IfSome, Vec, int_lt, if◌then◌else◌}
+use Rattle.std.proofs.Common.{◌≡◌, ◌≢◌, refl, sym, ◌∙◌, ap, subst, ℕ, ◌+◌, ◌<◌, ◌≤◌, Option, None, Some, ◌⊎◌, inl, inr, arith, ℤ, ◌+ℤ◌, List, [], ◌++◌, length}
+use Rattle.std.proofs.Common.{◌-◌, Bool, true, false, ◌≤ℤ◌, ◌<ℤ◌, take, drop, length-drop, FitsSigned, IfSome, Vec, int_lt, if◌then◌else◌}
 use Rattle.std.proofs.lemmas.Bool.{cases_eq, cases_lt}
 use Rattle.std.proofs.Math.ListN.{get_or-eq_default}
 use Rattle.network.specs.declared.parts.Lag.{Lag}
 use Rattle.network.specs.Walk.{entry, IsMatrixOf, weight, Rows}
-use Rattle.longest_path.specs.Matrix.{greater, joined, Reaches, IsSquare, IsRow, IsRelaxed, HasSmallSums, weight_at}
-use Rattle.longest_path.specs.Matrix.{placed_at, IsRowOver, HasEntriesWithin, GainsNothingAt, nothing, weight_of}
+use Rattle.longest_path.specs.Matrix.{greater, joined, Reaches, IsSquare, IsRow, IsRelaxed, HasSmallSums, weight_at, placed_at, IsRowOver, HasEntriesWithin}
+use Rattle.longest_path.specs.Matrix.{GainsNothingAt, nothing, weight_of}
 use Rattle.longest_path.specs.Insert.{EndGains, entry_over, IsEntryOver, IsTransitive, IsReadyRow, IsReady, StartGainsNothing}
 use Rattle.network.proofs.Walks.{IsWalk-append, weight-append}
 use Rattle.longest_path.proofs.OneArc.{IsGreatest-matrix}
@@ -16,8 +15,8 @@ use Rattle.std.specs.Int.{w64}
 use Rattle.std.specs.declared.alloc.Global.{Global}
 use Rattle.std.specs.Vec.{with_items}
 use Rattle.std.proofs.lemmas.List.{with_items_is, get_or-take, get_or-drop, length-take-le}
-use Rattle.longest_path.proofs.Reach.{at_Reaches, Reaches-weaker, greater_none, joined_none, greater_same, same_some}
-use Rattle.longest_path.proofs.Reach.{joined-some, joined-parts, int_lt-true, int_lt-false}
+use Rattle.longest_path.proofs.Reach.{at_Reaches, Reaches-weaker, greater_none, joined_none, greater_same, same_some, joined-some, joined-parts, int_lt-true}
+use Rattle.longest_path.proofs.Reach.{int_lt-false}
 use Rattle.longest_path.proofs.Weights.{IsSquare-inside}
 use Rattle.longest_path.proofs.Cells.{placed_inside, column_cases, placed_outside}
 use Rattle.network.specs.declared.limits.TheConstants.{MAX_LAG_WEIGHT, MAX_WALK_WEIGHT}

@@ -1,18 +1,17 @@
 -- What saved parts are when one more is saved, and when the last is taken.
-use Rattle.std.proofs.Common.{◌≡◌, ◌≢◌, refl, sym, ◌∙◌, ap, subst, ℕ, ◌+◌, ◌*◌, ◌<◌, ◌≤◌, Option, None, ◌⊎◌, inl, inr}
-use Rattle.std.proofs.Common.{arith, ℤ, List, [], ◌++◌, map, length, get_or, set, take, drop, get_or-set_same}
-use Rattle.std.proofs.Common.{get_or-set_other, length-append, length-drop, Bool, true, false, ◌-◌, Some, ◌∷◌, suc}
+use Rattle.std.proofs.Common.{◌≡◌, ◌≢◌, refl, sym, ◌∙◌, ap, subst, ℕ, ◌+◌, ◌*◌, ◌<◌, ◌≤◌, Option, None, ◌⊎◌, inl, inr, arith, ℤ, List, [], ◌++◌, map, length}
+use Rattle.std.proofs.Common.{get_or, set, take, drop, get_or-set_same, get_or-set_other, length-append, length-drop, Bool, true, false, ◌-◌, Some, ◌∷◌, suc}
 use Rattle.std.proofs.Common.{append_assoc, not, reverse, ◌==◌, IsTrue, append-nil}
 use Rattle.std.proofs.Math.ListN.{get_or-map}
 use Rattle.std.proofs.Math.Seq.{take-append_seam, drop-append_seam}
-use Rattle.std.proofs.lemmas.List.{length-set, length-map, length-take-le, take-append-le, drop-append-le}
-use Rattle.std.proofs.lemmas.List.{take-append-drop, take_all, get_or-take, get_or-drop, reverse-append}
+use Rattle.std.proofs.lemmas.List.{length-set, length-map, length-take-le, take-append-le, drop-append-le, take-append-drop, take_all, get_or-take, get_or-drop}
+use Rattle.std.proofs.lemmas.List.{reverse-append}
 use Rattle.std.proofs.lemmas.List.Elements.{All-set, All-get_or, All-push, All-pop, All-head, All-tail, All-same}
 use Rattle.std.proofs.lemmas.Bool.{cases_eq, eqb-true}
 use Rattle.network.specs.Walk.{entry, Rows}
 use Rattle.longest_path.specs.Matrix.{IsSquare, nothing, weight_of, weight_at, rows_of, written_at, IsRow, IsRelaxed, placed_at, IsMatrix}
-use Rattle.longest_path.specs.Saved.{put_back, SavedPart, SavedParts, saves_of, cell_count, IsPart, AreSaved, undone}
-use Rattle.longest_path.specs.Saved.{LeadsBack, LeadsBackIfKept, marked_rows, AreNested, IsMarked, Part}
+use Rattle.longest_path.specs.Saved.{put_back, SavedPart, SavedParts, saves_of, cell_count, IsPart, AreSaved, undone, LeadsBack, LeadsBackIfKept, marked_rows}
+use Rattle.longest_path.specs.Saved.{AreNested, IsMarked, Part}
 use Rattle.longest_path.proofs.Cells.{IsSquare-rows_of, entry-rows_of, same_entry, outside_row, row_low, IsSpliced, spliced, column_cases, placed_outside}
 use Rattle.longest_path.proofs.Bound.{same_rows}
 use Rattle.longest_path.proofs.Reach.{greater_none}

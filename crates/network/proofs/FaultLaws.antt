@@ -1,7 +1,7 @@
 -- Parts without a fault are those of a project, and a project has no fault.
-use Rattle.std.proofs.Common.{◌≡◌, refl, sym, ℕ, zero, suc, ◌+◌, ◌<◌, ◌≤◌, Bool, true, false, ◌&&◌, ℤ, pos, neg_ℤ, ◌≤ℤ◌}
-use Rattle.std.proofs.Common.{List, [], ◌∷◌, length, Option, None, Some, arith, get_or, ◌∙◌, inl, inr, map, Vec, Global}
-use Rattle.std.proofs.Common.{ap, ◌++◌, append_assoc, subst, int_le, nat_le, nat_lt, nat_eq, Result, Ok, Err, OnErr}
+use Rattle.std.proofs.Common.{◌≡◌, refl, sym, ℕ, zero, suc, ◌+◌, ◌<◌, ◌≤◌, Bool, true, false, ◌&&◌, ℤ, pos, neg_ℤ, ◌≤ℤ◌, List, [], ◌∷◌, length, Option, None}
+use Rattle.std.proofs.Common.{Some, arith, get_or, ◌∙◌, inl, inr, map, Vec, Global, ap, ◌++◌, append_assoc, subst, int_le, nat_le, nat_lt, nat_eq, Result, Ok}
+use Rattle.std.proofs.Common.{Err, OnErr}
 use Rattle.std.specs.List.{All, AllPairs, list_all, Contains, range_with_len}
 use Rattle.std.proofs.lemmas.Int.{ints}
 use Rattle.std.proofs.lemmas.Bool.{and_parts, ltb-true, leb-true, eqb-true, le-leb, lt-ltb, eq-eqb}
@@ -11,12 +11,11 @@ use Rattle.std.proofs.lemmas.List.Sums.{AllPass-from_list_all, list_all-from_All
 use Rattle.network.specs.declared.parts.ProjectFault.{ProjectFault}
 use Rattle.network.specs.declared.parts.ProjectFault.TheVariants.{Limit, Activity, Dummy, Shape}
 use Rattle.network.specs.declared.parts.Quantity.TheVariants as quantity
-use Rattle.network.specs.Problem.{Problem, activity_count, end_of, resource_count, duration, IsProject, IsLag, IsAmount}
-use Rattle.network.specs.Problem.{IsDummy, IsWithin, start_arc, end_arc, pair_arc, implied_arcs, rules, arcs_of}
-use Rattle.network.specs.Problem.{NameActivities, problem_of, Lag, MAX_ACTIVITIES, MAX_AMOUNT, MAX_LAG_WEIGHT, MAX_LAGS}
+use Rattle.network.specs.Problem.{Problem, activity_count, end_of, resource_count, duration, IsProject, IsLag, IsAmount, IsDummy, IsWithin, start_arc, end_arc}
+use Rattle.network.specs.Problem.{pair_arc, implied_arcs, rules, arcs_of, NameActivities, problem_of, Lag, MAX_ACTIVITIES, MAX_AMOUNT, MAX_LAG_WEIGHT, MAX_LAGS}
 use Rattle.network.specs.Problem.{MAX_RESOURCES, Pair}
-use Rattle.network.specs.Faults.{or_else, unless, is_amount, is_weight, is_zero, shape_fault, count_fault, dummy_fault}
-use Rattle.network.specs.Faults.{amount_fault, arc_fault, lag_fault, first_fault}
+use Rattle.network.specs.Faults.{or_else, unless, is_amount, is_weight, is_zero, shape_fault, count_fault, dummy_fault, amount_fault, arc_fault, lag_fault}
+use Rattle.network.specs.Faults.{first_fault}
 use Rattle.std.proofs.lemmas.List.{get_or-map, length-map}
 use Rattle.std.proofs.lemmas.List.FromFn.{get_or-map-range_with_len, length-map-range_with_len, map-range_with_len_more}
 use Rattle.network.specs.Walk.{AreLight, AreInside}

@@ -1,7 +1,6 @@
 -- A schedule without the periods that no stretch covers is feasible too, and ends by the horizon.
-use Rattle.std.proofs.Common.{◌≡◌, refl, sym, ap, ◌∙◌, ℕ, zero, suc, ◌+◌, ◌-◌, ◌<◌, ◌≤◌, inl, inr, ⊎_elim, Bool, true}
-use Rattle.std.proofs.Common.{false, ◌==◌, ◌&&◌, int_le, int_lt, cond, ℤ, pos, negsuc, ◌+ℤ◌, ◌≤ℤ◌, ◌<ℤ◌, unsigned_abs}
-use Rattle.std.proofs.Common.{List, [], ◌∷◌, map, length, get_or, arith}
+use Rattle.std.proofs.Common.{◌≡◌, refl, sym, ap, ◌∙◌, ℕ, zero, suc, ◌+◌, ◌-◌, ◌<◌, ◌≤◌, inl, inr, ⊎_elim, Bool, true, false, ◌==◌, ◌&&◌, int_le, int_lt, cond}
+use Rattle.std.proofs.Common.{ℤ, pos, negsuc, ◌+ℤ◌, ◌≤ℤ◌, ◌<ℤ◌, unsigned_abs, List, [], ◌∷◌, map, length, get_or, arith}
 use Rattle.std.specs.Int.{int_max}
 use Rattle.std.specs.List.{All, Contains, filter, fold, range_with_len, sum_by}
 use Rattle.std.proofs.lemmas.Bool.{eq-eqb}

@@ -1,6 +1,6 @@
 -- Time without the periods that no stretch covers. The stretch of i begins at a i and lasts for m i periods.
-use Rattle.std.proofs.Common.{◌≡◌, refl, sym, ap, ◌∙◌, ℕ, zero, suc, ◌+◌, ◌-◌, ◌<◌, ◌≤◌, ◌⊎◌, inl, inr, ⊎_elim, min}
-use Rattle.std.proofs.Common.{Bool, true, false, ◌&&◌, cond, nat_le, nat_lt, arith, map-id, add-zero, add-one, add-suc}
+use Rattle.std.proofs.Common.{◌≡◌, refl, sym, ap, ◌∙◌, ℕ, zero, suc, ◌+◌, ◌-◌, ◌<◌, ◌≤◌, ◌⊎◌, inl, inr, ⊎_elim, min, Bool, true, false, ◌&&◌, cond, nat_le}
+use Rattle.std.proofs.Common.{nat_lt, arith, map-id, add-zero, add-one, add-suc}
 use Rattle.std.specs.List.{range_with_len, sum_by}
 use Rattle.std.proofs.lemmas.Bool.{cases_lt, le-leb, lt-ltb, leb-true, ltb-true, and_parts}
 use Rattle.std.proofs.lemmas.List.FromFn.{sum_by-map-range_with_len_more}

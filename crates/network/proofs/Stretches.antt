@@ -1,6 +1,6 @@
 -- The stretch of an activity, arc by arc.
-use Rattle.std.proofs.Common.{◌≡◌, ◌≢◌, sym, ap, ◌∙◌, ℕ, ◌+◌, ◌<◌, ◌≤◌, Bool, true, false, ◌==◌, cond, ℤ, pos, List, []}
-use Rattle.std.proofs.Common.{◌∷◌, ◌++◌, map, take, length, get_or, arith}
+use Rattle.std.proofs.Common.{◌≡◌, ◌≢◌, sym, ap, ◌∙◌, ℕ, ◌+◌, ◌<◌, ◌≤◌, Bool, true, false, ◌==◌, cond, ℤ, pos, List, [], ◌∷◌, ◌++◌, map, take, length, get_or}
+use Rattle.std.proofs.Common.{arith}
 use Rattle.std.specs.Int.{int_max}
 use Rattle.std.specs.List.{filter, fold}
 use Rattle.std.proofs.lemmas.Bool.{eq-eqb, ne_eqb}

@@ -1,7 +1,7 @@
 -- Laws of walks: joined end to end, cut at a vertex, and how long one can be that visits no inner
 -- vertex twice.
-use Rattle.std.proofs.Common.{◌≡◌, refl, sym, ap, ℕ, ◌+◌, ◌*◌, ◌<◌, ◌≤◌, ◌⊎◌, inl, inr, arith, ℤ, pos, unsigned_abs}
-use Rattle.std.proofs.Common.{◌+ℤ◌, List, [], ◌∷◌, ◌++◌, length, true, false, eqb}
+use Rattle.std.proofs.Common.{◌≡◌, refl, sym, ap, ℕ, ◌+◌, ◌*◌, ◌<◌, ◌≤◌, ◌⊎◌, inl, inr, arith, ℤ, pos, unsigned_abs, ◌+ℤ◌, List, [], ◌∷◌, ◌++◌, length, true}
+use Rattle.std.proofs.Common.{false, eqb}
 use Rattle.std.proofs.lemmas.Int.{ints}
 use Rattle.std.specs.List.{Contains, IsDistinct, list_any, AllByRecursion}
 use Rattle.std.proofs.lemmas.Bool.{ne_eqb, eqb-true, or_cases}

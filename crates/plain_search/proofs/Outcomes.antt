@@ -10,8 +10,8 @@ use Rattle.network.specs.Schedule.{ScheduleOf, IsFeasible, makespan}
 use Rattle.branching.specs.Subproblem.{Subproblem, NodeStandsFor}
 use Rattle.branching.specs.Right.{IsUnder, IsLeast}
 use Rattle.branching.specs.Fair.{IsShorterThan, IsNodeOf, IsRootOf, IsScheduleFor, ceiling_of}
-use Rattle.plain_search.specs.Takes.{bounds_of, SearchState, IsSoundState, IsTake, Takes, no_take, one_more}
-use Rattle.plain_search.specs.Takes.{IsStillOpen, IsOutcomeOf, StopsOnlyAfter, first_state}
+use Rattle.plain_search.specs.Takes.{bounds_of, SearchState, IsSoundState, IsTake, Takes, no_take, one_more, IsStillOpen, IsOutcomeOf, StopsOnlyAfter}
+use Rattle.plain_search.specs.Takes.{first_state}
 use Rattle.plain_search.specs.Verdicts.{IsTrueOf, StopsBelowBest}
 use Rattle.plain_search.specs.declared.search.Outcome.{Outcome}
 use Rattle.plain_search.specs.declared.search.Outcome.TheVariants.{Optimal, NoSchedule, Stopped}

@@ -1,7 +1,6 @@
 -- A sweep along both orders finds the first overload, and the overloads at every start time.
-use Rattle.std.proofs.Common.{◌≡◌, Bool, true, false, cond, List, [], ◌∷◌, ◌++◌, map, refl, ℕ, zero, suc, ◌+◌, ◌<◌, ◌≤◌}
-use Rattle.std.proofs.Common.{length, get_or, take, ⊎_elim, arith, sym, subst, ap, ◌∙◌, append-nil, SFits, w64, to_z}
-use Rattle.std.proofs.Common.{of_z, append_assoc, ℤ, pos, negsuc, ◌≤ℤ◌, ◌<ℤ◌, nat_lt, ◌↔◌}
+use Rattle.std.proofs.Common.{◌≡◌, Bool, true, false, cond, List, [], ◌∷◌, ◌++◌, map, refl, ℕ, zero, suc, ◌+◌, ◌<◌, ◌≤◌, length, get_or, take, ⊎_elim, arith}
+use Rattle.std.proofs.Common.{sym, subst, ap, ◌∙◌, append-nil, SFits, w64, to_z, of_z, append_assoc, ℤ, pos, negsuc, ◌≤ℤ◌, ◌<ℤ◌, nat_lt, ◌↔◌}
 use Rattle.std.specs.List.{AllByRecursion, filter, flat_map, sum_by, range_with_len}
 use Rattle.std.proofs.lemmas.Bool.{cases_lt, le-ltb, ltb-false, lt-ltb}
 use Rattle.std.proofs.lemmas.Int.{ints, by_lt_z, to_z-of_z}

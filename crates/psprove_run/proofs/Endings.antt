@@ -1,6 +1,6 @@
 -- How a run ends: what was written of a record before the answer, and after it.
-use Rattle.std.proofs.Common.{◌≡◌, ◌≢◌, ◌⊎◌, ◌+◌, Bool, true, false, ℕ, List, [], ◌++◌, length, take, Option, None}
-use Rattle.std.proofs.Common.{Some, MatchOption, Result, Ok, Err, refl, sym, ap, ◌∙◌, subst, arith, inl, inr, ⊎_elim}
+use Rattle.std.proofs.Common.{◌≡◌, ◌≢◌, ◌⊎◌, ◌+◌, Bool, true, false, ℕ, List, ◌++◌, length, take, Option, None, Some, MatchOption, Ok, Err, refl, sym, ap, ◌∙◌}
+use Rattle.std.proofs.Common.{inl, inr, ⊎_elim}
 use Rattle.std.specs.Prelude.{IfNone, IfSome, IsSomeAnd}
 use Rattle.std.specs.Option.{option_map}
 use Rattle.std.specs.Io.KnownBytes.{Appends}
@@ -14,7 +14,7 @@ use Rattle.runs.specs.Outcome.{IfTextsKnown, Inputs, search_inputs}
 use Rattle.runs.specs.Runs.{HasRead, IsCutShort, IsUntouched, IsWritten, OneFailedWhere, ReplyOf, Span, TookAll, TookFront, span}
 use Rattle.runs.proofs.CallLaws.{write_is_no_search}
 use Rattle.psprove_run.specs.declared.asked.SolveOptions.{SolveOptions}
-use Rattle.psprove_run.specs.Recording.{IsCopied, IsRecorder, TookSome}
+use Rattle.psprove_run.specs.Recording.{IsRecorder, TookSome}
 use Rattle.psprove_run.specs.Story.{HasNoReply, IsCutOff, IsReply, IsUnanswered, Solves, continued}
 
 -- all is a beginning, too

@@ -1,21 +1,11 @@
 -- What the device of a record took.
-use Rattle.std.proofs.Common.{◌≡◌, ◌<◌, ◌+◌, ◌-◌, ◌^◌, Bool, true, false, ℕ, List, [], ◌++◌, length, min, take, Option}
-use Rattle.std.proofs.Common.{refl, sym, ap, ◌∙◌, arith, inl, inr, length-append}
+use Rattle.std.proofs.Common.{◌≡◌, ◌+◌, ◌-◌, ◌^◌, Bool, true, false, ℕ, List, ◌++◌, length, min, take, Option, ap, ◌∙◌, arith, inr, length-append}
 use Rattle.std.specs.Io.KnownBytes.{Appends}
-use Rattle.std.proofs.KnownBytes.{Appends-nil, Appends-trans}
+use Rattle.std.proofs.KnownBytes.{Appends-trans}
 use Rattle.std.proofs.Math.Seq.{take-append-add}
 use Rattle.lemma_book.specs.Ledger.{LedgerOf}
 use Rattle.lemma_record.specs.LemmaBook.{IsLogOf}
 use Rattle.psprove_run.specs.Recording.{IsCopied, IsRecorder, bytes_of}
-
--- a device that took nothing yet
-pub blank_recorder : (told : Option (List ℕ)) (failures : ℕ) → failures < 2 ^ 64 - 1 → IsRecorder told failures told failures [] 0 false
-blank_recorder told failures few = record {
-  begun = inl refl;
-  copied = (Appends-nil told, refl);
-  count = refl;
-  few = few;
-}
 
 copied_more : (told mid after : Option (List ℕ)) (failures failures_mid failures_after : ℕ) (text piece : List ℕ) (failed : Bool)
     → IsCopied false told mid failures failures_mid text

@@ -1,13 +1,12 @@
 -- The story of a run: what it replies to the texts that its inputs tell.
-use Rattle.std.specs.Prelude.{Some, true, ◌≡◌, ◌≢◌, IfNone, IfSome, ℕ, List, ◌++◌, Bool, false, codes, drop, ◌⊎◌, ℤ, Option, None, MatchOption, option_map}
+use Rattle.std.specs.Prelude.{Some, true, ◌≡◌, ◌≢◌, IfNone, IfSome, ℕ, List, ◌++◌, Bool, false, ◌⊎◌, ℤ, Option, None, MatchOption, option_map}
 use Rattle.psprove_run.specs.declared.asked.SolveOptions.{SolveOptions}
 use Rattle.plain_search.specs.declared.search.Outcome.{Outcome}
 use Rattle.answers.specs.Outcomes.{SaysOutcome}
 use Rattle.answers.specs.declared.json_text.Figures.{Figures}
 use Rattle.answers.specs.Figured.{SaysFigures}
 use Rattle.network.specs.Problem.{Problem}
-use Rattle.network.specs.Schedule.{makespan, IsFeasible}
-use Rattle.plain_search.specs.declared.search.Outcome.TheVariants.{Optimal, NoSchedule, Stopped}
+use Rattle.network.specs.Schedule.{IsFeasible}
 use Rattle.plain_search.specs.Verdicts.{IsTrueOf, verdict_of}
 use Rattle.lemma_record.specs.Right.{IsRightText}
 use Rattle.answers.specs.Answers.{IsViolationsText}

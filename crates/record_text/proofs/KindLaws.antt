@@ -1,16 +1,15 @@
 -- The text of a record, whatever its kind, has no fault, and is that of no other record; a text has one first fault.
-use Rattle.std.proofs.Common.{◌≡◌, ◌≢◌, ℕ, ◌≤◌, List, [], ◌∷◌, ◌++◌, map, length, refl, sym, ap, ◌∙◌, subst, arith}
-use Rattle.std.proofs.Common.{append_assoc, append-nil, length-append, ◌⊎◌, inl, inr, ◌+◌, Result, Ok, Err, IfOk, IfErr}
-use Rattle.std.proofs.Common.{MatchResult}
+use Rattle.std.proofs.Common.{◌≡◌, ◌≢◌, ℕ, ◌≤◌, List, [], ◌∷◌, ◌++◌, map, length, refl, sym, ap, ◌∙◌, subst, arith, append_assoc, append-nil, length-append}
+use Rattle.std.proofs.Common.{◌⊎◌, inl, inr, ◌+◌, Result, Ok, Err, IfOk, IfErr, MatchResult}
 use Rattle.std.specs.List.{AllByRecursion}
 use Rattle.record_text.specs.declared.fault.RecordFault.{RecordFault}
 use Rattle.record_text.specs.declared.fault.RecordFaultKind.TheVariants as why
-use Rattle.record_text.specs.Kinds.{RecordOf, Kind, head_rows, rows_of, record_text, IsRecord, Spells, AreRows}
-use Rattle.record_text.specs.Kinds.{MAX_RECORD_BYTES, Rules, IsDueAfter, HasNone, Facts}
+use Rattle.record_text.specs.Kinds.{RecordOf, Kind, head_rows, rows_of, record_text, IsRecord, Spells, AreRows, MAX_RECORD_BYTES, Rules, IsDueAfter, HasNone}
+use Rattle.record_text.specs.Kinds.{Facts}
 use Rattle.record_text.specs.Rows as rows
 use Rattle.record_text.specs.Rows.{line_pieces, RowFault, Begin, HasRowFault, IsNeverLonger, missing}
-use Rattle.record_text.specs.TextFaults.{HasFault, IsFirstTextFault, IsMissing, IsOther, IsTitleFault, RecordIsOne}
-use Rattle.record_text.specs.TextFaults.{FirstFaultIsOne, FaultIsNoRecord, why_of, form}
+use Rattle.record_text.specs.TextFaults.{HasFault, IsFirstTextFault, IsMissing, IsOther, IsTitleFault, RecordIsOne, FirstFaultIsOne, FaultIsNoRecord, why_of}
+use Rattle.record_text.specs.TextFaults.{form}
 use Rattle.record_text.proofs.FirstWrong.{fault_at, is_memory}
 use Rattle.record_text.proofs.IsDueAfter.{Grammar, none_more}
 use Rattle.record_text.proofs.Rows.{text_from, pieces_of, Stands, missing_at, form_at, same_rows, whole_no_fault, one_fault}

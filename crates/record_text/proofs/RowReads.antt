@@ -1,7 +1,6 @@
 -- Reading rows: what is read is spelled so, and what is spelled is read.
-use Rattle.std.proofs.Common.{◌≡◌, ℕ, zero, suc, ◌<◌, ◌≤◌, ◌^◌, List, [], ◌∷◌, ◌++◌, map, length, get_or, Option, Some}
-use Rattle.std.proofs.Common.{None, Bool, true, false, cond, eqb, refl, sym, ap, ◌∙◌, subst, arith, rules}
-use Rattle.std.proofs.Common.{length-append, not, append-nil, ◌≢◌, ℤ, pos, negsuc, codes}
+use Rattle.std.proofs.Common.{◌≡◌, ℕ, zero, suc, ◌<◌, ◌≤◌, ◌^◌, List, [], ◌∷◌, ◌++◌, map, length, get_or, Option, Some, None, Bool, true, false, cond, eqb}
+use Rattle.std.proofs.Common.{refl, sym, ap, ◌∙◌, subst, arith, rules, length-append, not, append-nil, ◌≢◌, ℤ, pos, negsuc, codes}
 use Rattle.std.specs.List.{slice_index, list_all, join_with_byte, All, AllByRecursion}
 use Rattle.std.specs.Char.{is_ascii_digit}
 use Rattle.std.specs.Fmt.{decimal}
@@ -11,9 +10,8 @@ use Rattle.std.proofs.Math.Bool.{and-false}
 use Rattle.std.proofs.lemmas.Bool.{and_parts, ne_eqb, not-true}
 use Rattle.std.proofs.lemmas.List.Splits.{slice_split_at, slice_split_none, join_with_byte-slice_split}
 use Rattle.record_text.specs.Text.{IsNumber, spaced, IsWritableLine, row_of, IsWritableTime, IsWritableClaim, spaced_times, claim_rows}
-use Rattle.record_text.specs.Reading.{has_leading_zero, number, with_number, numbers, Parts, with_word, parts_of}
-use Rattle.record_text.specs.Reading.{fields, leaf, force_of, split_of, line_from, line_in, line_of, numbers_in}
-use Rattle.record_text.specs.Reading.{numbers_after, only_time, makespan_in, some_times, starts_in}
+use Rattle.record_text.specs.Reading.{has_leading_zero, number, with_number, numbers, Parts, with_word, parts_of, fields, leaf, force_of, split_of, line_from}
+use Rattle.record_text.specs.Reading.{line_in, line_of, numbers_in, numbers_after, only_time, makespan_in, some_times, starts_in}
 use Rattle.words.specs.Words.{is_numeral, natural}
 use Rattle.words.proofs.WordLaws.{AreDigits, numerals, digits_value-below, natural-Some}
 use Rattle.std.proofs.lemmas.Bool.Decides.{nat_tests}

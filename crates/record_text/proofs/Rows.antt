@@ -1,6 +1,6 @@
 -- A text has one first fault, and none where its rows are those of a whole.
-use Rattle.std.proofs.Common.{◌≡◌, ◌≢◌, ℕ, List, [], ◌∷◌, ◌++◌, map, length, refl, sym, ap, ◌∙◌, subst, append_assoc}
-use Rattle.std.proofs.Common.{append-nil, eqb, true, false, Bool, ℤ, ◌+◌, arith, length-append, ◌⊎◌, inl, inr, not}
+use Rattle.std.proofs.Common.{◌≡◌, ◌≢◌, ℕ, List, [], ◌∷◌, ◌++◌, map, length, refl, sym, ap, ◌∙◌, subst, append_assoc, append-nil, eqb, true, false, Bool, ℤ}
+use Rattle.std.proofs.Common.{◌+◌, arith, length-append, ◌⊎◌, inl, inr, not}
 use Rattle.std.specs.Char.{is_ascii_digit}
 use Rattle.std.specs.Fmt.{decimal}
 use Rattle.std.specs.List.{onto_first, join_with_byte, flat_map, AllByRecursion, list_all, All}

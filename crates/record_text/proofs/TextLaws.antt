@@ -1,17 +1,16 @@
 -- What the laws of the text of a search's record follow from.
-use Rattle.std.proofs.Common.{◌≡◌, ◌↔◌, ℕ, zero, suc, ◌+◌, ◌-◌, ◌<◌, ◌≤◌, List, [], ◌∷◌, ◌++◌, refl, sym, ap, ◌∙◌}
-use Rattle.std.proofs.Common.{subst, arith, append_assoc, append-nil, ◌*◌, Some, length, ◌≢◌, None, pos, ℤ, codes}
+use Rattle.std.proofs.Common.{◌≡◌, ◌↔◌, ℕ, zero, suc, ◌+◌, ◌-◌, ◌<◌, ◌≤◌, List, [], ◌∷◌, ◌++◌, refl, sym, ap, ◌∙◌, subst, arith, append_assoc, append-nil, ◌*◌}
+use Rattle.std.proofs.Common.{Some, length, ◌≢◌, None, pos, ℤ, codes}
 use Rattle.network.specs.declared.parts.Pair.{Pair}
-use Rattle.record_text.specs.Tree.{Tree, force, solved, cut, dead, split, Trees, no_trees, tree, count_trees}
-use Rattle.record_text.specs.Tree.{pair_count, IsTree, AreTrees, lines_of, lines_of_all, IsTreeOf, Completes, still_due}
-use Rattle.record_text.specs.Tree.{count_members, Line, Claim}
+use Rattle.record_text.specs.Tree.{Tree, force, solved, cut, dead, split, Trees, no_trees, tree, count_trees, pair_count, IsTree, AreTrees, lines_of}
+use Rattle.record_text.specs.Tree.{lines_of_all, IsTreeOf, Completes, still_due, count_members, Line, Claim}
 use Rattle.record_text.specs.declared.line.Line.TheVariants as kind
 use Rattle.std.proofs.Math.Nat.{mul-le-mul_left}
 use Rattle.std.specs.List.{AllByRecursion}
 use Rattle.record_text.specs.Text.{IsWritableLine, row_of, IsWritableClaim, claim_rows, spaced, spaced_times, search_kind}
 use Rattle.record_text.specs.Reading.{makespan_in, starts_in, search_rules}
-use Rattle.record_text.proofs.RowReads.{line_again, line_takes, members_fit, claim_injective, makespan_again}
-use Rattle.record_text.proofs.RowReads.{makespan_takes, starts_again, starts_take, other_word}
+use Rattle.record_text.proofs.RowReads.{line_again, line_takes, members_fit, claim_injective, makespan_again, makespan_takes, starts_again, starts_take}
+use Rattle.record_text.proofs.RowReads.{other_word}
 use Rattle.record_text.specs.declared.line.Claim.TheVariants as claims
 use Rattle.record_text.proofs.KindLaws.{stands_in, no_claim}
 use Rattle.record_text.proofs.Rows.{plain_append, plain_spaced, plain_times, Stands}

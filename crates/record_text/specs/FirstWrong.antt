@@ -2,7 +2,7 @@
 use Rattle.std.specs.Prelude.{◌≡◌, ◌≢◌, ◌⊎◌, ℕ, ℤ, ◌+◌, List, ◌∷◌, ◌++◌, length, Result, OnOk, IfOk, IfErr}
 use Rattle.std.specs.List.{All}
 use Rattle.network.specs.Problem.{Problem}
-use Rattle.network.specs.Schedule.{IsFeasible, makespan, IsShortest, IsLowerBound, HasNoSchedule, IsTrueVerdict}
+use Rattle.network.specs.Schedule.{IsFeasible, makespan, IsTrueVerdict}
 use Rattle.record_text.specs.declared.fault.RecordFault.{RecordFault}
 use Rattle.record_text.specs.declared.fault.RecordFaultKind.{RecordFaultKind}
 use Rattle.record_text.specs.declared.fault.RecordFaultKind.TheVariants as why

@@ -1,7 +1,6 @@
 -- The canonical text of a project spells it, and is within the limit.
-use Rattle.std.proofs.Common.{◌≡◌, ℕ, zero, suc, ◌+◌, ◌-◌, ◌*◌, ◌≤◌, ◌<◌, Bool, true, false, cond, inl, inr, eqb, leb}
-use Rattle.std.proofs.Common.{List, [], ◌∷◌, ◌++◌, length, map, get_or, ℤ, pos, Some, refl, sym, ap, subst, ◌∙◌}
-use Rattle.std.proofs.Common.{append_assoc, length-append, mul-le-mul, arith, codes}
+use Rattle.std.proofs.Common.{◌≡◌, ℕ, zero, suc, ◌+◌, ◌-◌, ◌*◌, ◌≤◌, ◌<◌, Bool, true, false, cond, inl, inr, eqb, leb, List, [], ◌∷◌, ◌++◌, length, map, get_or}
+use Rattle.std.proofs.Common.{ℤ, pos, Some, refl, sym, ap, subst, ◌∙◌, append_assoc, length-append, mul-le-mul, arith, codes}
 use Rattle.std.specs.List.{All, filter, flat_map, range_with_len}
 use Rattle.std.specs.Fmt.{decimal, signed_decimal}
 use Rattle.std.proofs.lemmas.Bool.{cases_order, eq-eqb, ne_eqb, le-leb, lt-leb}
@@ -13,13 +12,11 @@ use Rattle.network.specs.declared.parts.Lag.{Lag}
 use Rattle.network.specs.declared.limits.TheConstants.{MAX_ACTIVITIES, MAX_LAG_WEIGHT, MAX_RESOURCES}
 use Rattle.network.specs.Problem.{Problem, activities, activity_count, resource_count, IsAmount, IsWithin, IsLag, IsProject}
 use Rattle.words.specs.Words.{words}
-use Rattle.sch_reader.specs.Text.{text_words, token, lags_from, network_numbers, request_numbers, flat, Spells, line}
-use Rattle.sch_reader.specs.Text.{bracketed, header_row, network_row, amounts_row, request_row, capacity_rows}
-use Rattle.sch_reader.specs.Text.{canonical_text}
+use Rattle.sch_reader.specs.Text.{text_words, token, lags_from, network_numbers, request_numbers, flat, Spells, line, bracketed, header_row, network_row}
+use Rattle.sch_reader.specs.Text.{amounts_row, request_row, capacity_rows, canonical_text}
 use Rattle.sch_reader.proofs.NetworkRows.{row_numbers}
-use Rattle.sch_reader.proofs.Printed.{decimal_prints, signed_prints, bracketed_prints, zero_prints, one_prints}
-use Rattle.sch_reader.proofs.Printed.{AllPrint, AllPrint-append, AllPrint-map, Writes, Writes-nil, Writes-append}
-use Rattle.sch_reader.proofs.Printed.{line_writes}
+use Rattle.sch_reader.proofs.Printed.{decimal_prints, signed_prints, bracketed_prints, zero_prints, one_prints, AllPrint, AllPrint-append, AllPrint-map, Writes}
+use Rattle.sch_reader.proofs.Printed.{Writes-nil, Writes-append, line_writes}
 
 -- ---- network rows
 

@@ -1,7 +1,6 @@
 -- What the layout of the network rows leads to.
-use Rattle.std.proofs.Common.{◌≡◌, ℕ, zero, suc, true, List, [], ◌∷◌, ◌++◌, length, ℤ, refl, ap, subst, ◌+◌, ◌-◌, ◌≤◌}
-use Rattle.std.proofs.Common.{◌<◌, eqb, map, pos, nat_abs, sym, ◌∙◌, append_assoc, arith, Bool, false, take, drop}
-use Rattle.std.proofs.Common.{eq-eqb, ne_eqb, eqb-true, neg_ℤ}
+use Rattle.std.proofs.Common.{◌≡◌, ℕ, zero, suc, true, List, [], ◌∷◌, ◌++◌, length, ℤ, refl, ap, subst, ◌+◌, ◌-◌, ◌≤◌, ◌<◌, eqb, map, pos, nat_abs, sym, ◌∙◌}
+use Rattle.std.proofs.Common.{append_assoc, arith, Bool, false, take, drop, eq-eqb, ne_eqb, eqb-true, neg_ℤ}
 use Rattle.std.specs.List.{AllByRecursion, All, AllPairs, prefix_len}
 use Rattle.std.proofs.lemmas.List.{append-nil, length-append, length-map}
 use Rattle.sch_reader.specs.Layout.{Layout, done, place, fits, row_of, ◌>>=◌, lags_to, network_row, network_rows, Place}

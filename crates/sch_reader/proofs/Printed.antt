@@ -1,7 +1,6 @@
 -- What the reader makes of a printed number, and how long it is.
-use Rattle.std.proofs.Common.{◌≡◌, ℕ, suc, ◌≤◌, ◌<◌, ◌^◌, Bool, true, false, eqb, List, [], ◌∷◌, ◌++◌, length, map}
-use Rattle.std.proofs.Common.{get_or, ℤ, pos, negsuc, Option, Some, refl, ap, ◌∙◌, append_assoc, length-append, arith}
-use Rattle.std.proofs.Common.{nat_abs, ◌≤ℤ◌, ◌+◌, ◌-◌, take, drop, sym, ◌*◌, subst, codes, int_le}
+use Rattle.std.proofs.Common.{◌≡◌, ℕ, suc, ◌≤◌, ◌<◌, ◌^◌, Bool, true, false, eqb, List, [], ◌∷◌, ◌++◌, length, map, get_or, ℤ, pos, negsuc, Option, Some, refl}
+use Rattle.std.proofs.Common.{ap, ◌∙◌, append_assoc, length-append, arith, nat_abs, ◌≤ℤ◌, ◌+◌, ◌-◌, take, drop, sym, ◌*◌, subst, codes, int_le}
 use Rattle.std.specs.List.{All, filter, flat_map, join_with_byte, range_with_len}
 use Rattle.std.specs.Char.{is_ascii_digit}
 use Rattle.std.specs.Fmt.{decimal, signed_decimal}

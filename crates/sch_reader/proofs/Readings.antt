@@ -1,12 +1,10 @@
 -- What reading a layout says of the words that it went through.
-use Rattle.std.proofs.Common.{◌≡◌, ℕ, ◌+◌, Bool, true, false, List, [], ◌∷◌, ◌++◌, length, ℤ, Option, Some, None}
-use Rattle.std.proofs.Common.{Result, Ok, Err, refl, sym, ap, subst, ◌∙◌, arith, add-zero, suc, ◌-◌, ◌≤◌, ◌<◌, get_or}
-use Rattle.std.proofs.Common.{drop, nat_abs, append_assoc, append-nil, length-append}
+use Rattle.std.proofs.Common.{◌≡◌, ℕ, ◌+◌, Bool, true, false, List, [], ◌∷◌, ◌++◌, length, ℤ, Option, Some, None, Result, Ok, Err, refl, sym, ap, subst, ◌∙◌}
+use Rattle.std.proofs.Common.{arith, add-zero, suc, ◌-◌, ◌≤◌, ◌<◌, get_or, drop, nat_abs, append_assoc, append-nil, length-append}
 use Rattle.sch_reader.specs.declared.fault.SchFault.TheVariants as faults
 use Rattle.sch_reader.specs.Text.{token, Spell, misfit_of}
-use Rattle.sch_reader.specs.Layout.{Layout, done, place, fits, misfit, ◌>>=◌ as ◌then◌, at, row_of, lags_to}
-use Rattle.sch_reader.specs.Layout.{network_row, network_rows, request_row, request_rows, Requests, both, no_requests}
-use Rattle.sch_reader.specs.Layout.{SchFault, Place}
+use Rattle.sch_reader.specs.Layout.{Layout, done, place, fits, misfit, ◌>>=◌ as ◌then◌, at, row_of, lags_to, network_row, network_rows, request_row}
+use Rattle.sch_reader.specs.Layout.{request_rows, Requests, both, no_requests, SchFault, Place}
 use Rattle.sch_reader.specs.Reading.{Cursor, ◌>>=◌, fitted, if_fits, number_at, reading}
 use Rattle.sch_reader.proofs.Layouts.{Reaches}
 use Rattle.std.proofs.Math.Seq.{drop-cons}

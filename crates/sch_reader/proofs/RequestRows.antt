@@ -1,6 +1,6 @@
 -- What the layout of the request rows leads to.
-use Rattle.std.proofs.Common.{◌≡◌, ℕ, zero, suc, ◌+◌, true, List, [], ◌∷◌, ◌++◌, length, ℤ, pos, refl, ap, subst, arith}
-use Rattle.std.proofs.Common.{◌<◌, Bool, false, cond, eqb, get_or, add-zero, ◌||◌}
+use Rattle.std.proofs.Common.{◌≡◌, ℕ, zero, suc, ◌+◌, true, List, [], ◌∷◌, ◌++◌, length, ℤ, pos, refl, ap, subst, arith, ◌<◌, Bool, false, cond, eqb, get_or}
+use Rattle.std.proofs.Common.{add-zero, ◌||◌}
 use Rattle.std.specs.List.{AllByRecursion}
 use Rattle.sch_reader.specs.declared.place.Place.TheVariants as places
 use Rattle.sch_reader.specs.Layout.{done, fits, row_of, request_row, request_rows, Requests, both, no_requests, amount_place, ◌>>=◌}

@@ -1,6 +1,6 @@
 -- What the answer of the whole reading says of a text: the project that it spells, or its first fault.
-use Rattle.std.proofs.Common.{◌≡◌, ◌≢◌, ℕ, ◌≤◌, ◌<◌, List, [], ◌∷◌, ◌++◌, length, ℤ, Option, Some, None, Result, Ok}
-use Rattle.std.proofs.Common.{Err, refl, sym, ap, subst, ◌∙◌, inl, inr, arith, IsOk, OnErr, append-nil}
+use Rattle.std.proofs.Common.{◌≡◌, ◌≢◌, ℕ, ◌≤◌, ◌<◌, List, [], ◌∷◌, ◌++◌, length, ℤ, Option, Some, None, Result, Ok, Err, refl, sym, ap, subst, ◌∙◌, inl, inr}
+use Rattle.std.proofs.Common.{arith, IsOk, OnErr, append-nil}
 use Rattle.network.specs.Problem.{Problem, IsProject}
 use Rattle.sch_reader.specs.declared.fault.SchFault.TheVariants as faults
 use Rattle.sch_reader.specs.declared.place.Place.TheVariants as places

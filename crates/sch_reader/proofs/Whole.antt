@@ -1,6 +1,6 @@
 -- What the layout of a project text leads to.
-use Rattle.std.proofs.Common.{◌≡◌, ℕ, ◌+◌, ◌-◌, ◌≤◌, true, List, [], ◌∷◌, ◌++◌, length, ℤ, pos, nat_abs, sym, subst}
-use Rattle.std.proofs.Common.{arith, refl, ◌<◌, eqb, get_or, ◌∙◌, inl, inr, ◌||◌}
+use Rattle.std.proofs.Common.{◌≡◌, ℕ, ◌+◌, ◌-◌, ◌≤◌, true, List, [], ◌∷◌, ◌++◌, length, ℤ, pos, nat_abs, sym, subst, arith, refl, ◌<◌, eqb, get_or, ◌∙◌, inl}
+use Rattle.std.proofs.Common.{inr, ◌||◌}
 use Rattle.std.specs.List.{AllByRecursion, All}
 use Rattle.sch_reader.specs.declared.place.Place.TheVariants as places
 use Rattle.network.specs.declared.parts.Lag.{Lag}
@@ -10,12 +10,10 @@ use Rattle.sch_reader.specs.Layout.{Layout, Requests, done, fits, row_of, header
 use Rattle.sch_reader.specs.Text.{flat, network_numbers, request_numbers}
 use Rattle.sch_reader.proofs.Layouts.{Reaches, through, Reaches-bind}
 use Rattle.sch_reader.proofs.Printed.{exactly, up_to, is_between_from}
-use Rattle.sch_reader.proofs.NetworkRows.{first, finished, next_is, joined_is, alone_is, row_found, AreInOrder, IsEnd}
-use Rattle.sch_reader.proofs.NetworkRows.{network_rows_found, row_again, network_rows_again, Reaches-made, order_from}
-use Rattle.sch_reader.proofs.NetworkRows.{in_order_all, lags_from_ends, ends_from_lags}
-use Rattle.sch_reader.proofs.RequestRows.{AreRequests, request_rows_found, request_rows_again, IsRequestAt, amount_from}
-use Rattle.sch_reader.proofs.RequestRows.{amount_fits, amount_there, nothing_there, fits_there, is_first, is_last}
-use Rattle.sch_reader.proofs.RequestRows.{requests_from, requests_count, request_at}
+use Rattle.sch_reader.proofs.NetworkRows.{first, finished, next_is, joined_is, alone_is, row_found, AreInOrder, IsEnd, network_rows_found, row_again}
+use Rattle.sch_reader.proofs.NetworkRows.{network_rows_again, Reaches-made, order_from, in_order_all, lags_from_ends, ends_from_lags}
+use Rattle.sch_reader.proofs.RequestRows.{AreRequests, request_rows_found, request_rows_again, IsRequestAt, amount_from, amount_fits, amount_there}
+use Rattle.sch_reader.proofs.RequestRows.{nothing_there, fits_there, is_first, is_last, requests_from, requests_count, request_at}
 use Rattle.std.proofs.lemmas.Int.{ints}
 use Rattle.std.proofs.lemmas.Bool.{eqb-true, or_cases}
 use Rattle.std.proofs.lemmas.List.Elements.{All-weaker, All-get_or, All-from_get_or, All-from_recursion, recursion_from_All}

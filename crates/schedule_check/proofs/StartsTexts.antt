@@ -1,8 +1,7 @@
 -- A text has no fault exactly where each of its lines is right and each activity has just one.
-use Rattle.std.proofs.Common.{◌≡◌, ℕ, ◌+◌, ◌<◌, ◌≤◌, Bool, true, false, cond, List, [], ◌∷◌, ◌++◌, length, get_or, refl}
-use Rattle.std.proofs.Common.{arith, Option, Some, None, eqb, ltb, eq-eqb, zero, suc, ◌^◌, map, drop, sym, ap, ◌∙◌, ℤ}
-use Rattle.std.proofs.Common.{is_none, is_some, pos, negsuc, nat_abs, unwrap_or, lt-ltb, le-ltb, ltb-true, ltb-false}
-use Rattle.std.proofs.Common.{ne_eqb}
+use Rattle.std.proofs.Common.{◌≡◌, ℕ, ◌+◌, ◌<◌, ◌≤◌, Bool, true, false, cond, List, [], ◌∷◌, ◌++◌, length, get_or, refl, arith, Option, Some, None, eqb, ltb}
+use Rattle.std.proofs.Common.{eq-eqb, zero, suc, ◌^◌, map, drop, sym, ap, ◌∙◌, ℤ, is_none, is_some, pos, negsuc, nat_abs, unwrap_or, lt-ltb, le-ltb, ltb-true}
+use Rattle.std.proofs.Common.{ltb-false, ne_eqb}
 use Rattle.std.specs.List.{AllByRecursion, count_by, position_or_len, All, range_with_len}
 use Rattle.std.specs.Option.{option_map}
 use Rattle.std.proofs.lemmas.Bool.Decides.{nat_tests}
@@ -11,10 +10,9 @@ use Rattle.std.proofs.lemmas.List.Sums.{sum_by-cons, fails_before_first}
 use Rattle.words.specs.declared.TheConstants.{MAX_TEXT_BYTES}
 use Rattle.schedule_check.specs.declared.entry.Entry.TheVariants.{Nothing, Gives, Wrong}
 use Rattle.schedule_check.specs.declared.fault.StartsFault.TheVariants as faults
-use Rattle.schedule_check.specs.Starts.{entries, start_in, start_given, starts_given, or_else, entry_fault, line_fault}
-use Rattle.schedule_check.specs.Starts.{missing_fault, starts_fault, GivesStartOf, gives, IsStartsText, spaces, given}
-use Rattle.schedule_check.specs.Starts.{entry_of, line_entries, is_answer, starts_of, first_fault, with_entries, Entry}
-use Rattle.schedule_check.specs.Starts.{StartsFault}
+use Rattle.schedule_check.specs.Starts.{entries, start_in, start_given, starts_given, or_else, entry_fault, line_fault, missing_fault, starts_fault}
+use Rattle.schedule_check.specs.Starts.{GivesStartOf, gives, IsStartsText, spaces, given, entry_of, line_entries, is_answer, starts_of, first_fault}
+use Rattle.schedule_check.specs.Starts.{with_entries, Entry, StartsFault}
 use Rattle.schedule_check.proofs.Tables.{given_later, given_at, given_length, fine_parts, both_none, none_missing, same_first_fault, all_entries}
 use Rattle.std.specs.Str.Lines.{lines, lines_of_parts, strip_carriage_return}
 use Rattle.std.proofs.lemmas.Int.{ints}

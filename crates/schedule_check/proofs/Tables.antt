@@ -1,8 +1,7 @@
 -- What the table of starts holds, and what it lacks.
-use Rattle.std.proofs.Common.{◌≡◌, ℕ, zero, suc, ◌+◌, ◌<◌, ◌≤◌, Bool, true, false, cond, List, [], ◌∷◌, ◌++◌, length}
-use Rattle.std.proofs.Common.{get_or, map, take, refl, sym, ap, ◌∙◌, arith, Option, Some, None, eqb, ltb, ⊎_elim, ◌⊎◌}
-use Rattle.std.proofs.Common.{inl, inr, ◌≢◌, append_assoc, replicate, eq-eqb, if◌then◌else◌, ℤ, pos, is_none, is_some}
-use Rattle.std.proofs.Common.{unwrap_or}
+use Rattle.std.proofs.Common.{◌≡◌, ℕ, zero, suc, ◌+◌, ◌<◌, ◌≤◌, Bool, true, false, cond, List, [], ◌∷◌, ◌++◌, length, get_or, map, take, refl, sym, ap, ◌∙◌}
+use Rattle.std.proofs.Common.{arith, Option, Some, None, eqb, ltb, ⊎_elim, ◌⊎◌, inl, inr, ◌≢◌, append_assoc, replicate, eq-eqb, if◌then◌else◌, ℤ, pos, is_none}
+use Rattle.std.proofs.Common.{is_some, unwrap_or}
 use Rattle.std.proofs.Math.ListN.{length-set}
 use Rattle.std.proofs.lemmas.List.{get_or-set_same, get_or-set_other, take_more, map-append, append-nil}
 use Rattle.std.specs.List.{position_or_len, range_with_len}
@@ -11,8 +10,8 @@ use Rattle.std.proofs.lemmas.List.FromFn.{get_or-map-range_with_len, length-map-
 use Rattle.std.proofs.lemmas.List.Sums.{position_or_len_is}
 use Rattle.schedule_check.specs.declared.entry.Entry.TheVariants.{Nothing, Gives, Wrong}
 use Rattle.schedule_check.specs.declared.fault.StartsFault.TheVariants as faults
-use Rattle.schedule_check.specs.Starts.{start_in, start_given, starts_given, entry_fault, line_fault, missing_fault}
-use Rattle.schedule_check.specs.Starts.{or_else, table_fault, with_entry, first_fault, with_entries, Entry, StartsFault}
+use Rattle.schedule_check.specs.Starts.{start_in, start_given, starts_given, entry_fault, line_fault, missing_fault, or_else, table_fault, with_entry}
+use Rattle.schedule_check.specs.Starts.{first_fault, with_entries, Entry, StartsFault}
 
 pub positive : (n : ℕ) (b : Bool) → b ≡ eqb n 0 → b ≡ false → 0 < n
 positive zero b e f = absurd (cc)

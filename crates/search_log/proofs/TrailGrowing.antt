@@ -1,7 +1,6 @@
 -- A trail stays right as nodes are split and children are opened.
-use Rattle.std.proofs.Common.{ℕ, List, [], ◌∷◌, ◌++◌, arith, Option, Some, None, ◌≡◌, zero, suc, ◌+◌, ◌<◌, length}
-use Rattle.std.proofs.Common.{get_or, refl, sym, ap, ◌∙◌, append_assoc, length-append, ◌≤◌, Bool, true, false, cond}
-use Rattle.std.proofs.Common.{map, drop, subst, ℤ, slice_set, slice_get}
+use Rattle.std.proofs.Common.{ℕ, List, [], ◌∷◌, ◌++◌, arith, Option, Some, None, ◌≡◌, zero, suc, ◌+◌, ◌<◌, length, get_or, refl, sym, ap, ◌∙◌, append_assoc}
+use Rattle.std.proofs.Common.{length-append, ◌≤◌, Bool, true, false, cond, map, drop, subst, ℤ, slice_set, slice_get}
 use Rattle.std.specs.List.{AllZip}
 use Rattle.std.proofs.lemmas.Int.{ints}
 use Rattle.network.specs.Problem.{Problem}

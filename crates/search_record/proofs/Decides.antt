@@ -1,7 +1,6 @@
 -- What a node's matrix decides of a line.
-use Rattle.std.proofs.Common.{◌≡◌, sym, ap, ◌∙◌, subst, ℕ, ◌<◌, ◌≤◌, arith, ℤ, pos, ◌+ℤ◌, ◌≤ℤ◌, ◌<ℤ◌, List, length}
-use Rattle.std.proofs.Common.{Option, None, Some, false, ◌+◌, [], ◌∷◌, ◌++◌, take, length-append, append_assoc, ◌↔◌}
-use Rattle.std.proofs.Common.{IsTrue, neg_ℤ}
+use Rattle.std.proofs.Common.{◌≡◌, sym, ap, ◌∙◌, subst, ℕ, ◌<◌, ◌≤◌, arith, ℤ, pos, ◌+ℤ◌, ◌≤ℤ◌, ◌<ℤ◌, List, length, Option, None, Some, false, ◌+◌, [], ◌∷◌}
+use Rattle.std.proofs.Common.{◌++◌, take, length-append, append_assoc, ◌↔◌, IsTrue, neg_ℤ}
 use Rattle.std.specs.Int.Signed.{lt_z, le_z}
 use Rattle.std.proofs.lemmas.Int.{ints}
 use Rattle.std.proofs.lemmas.Bool.{false≢true}

@@ -1,7 +1,6 @@
 -- The nodes that are due, step by step.
-use Rattle.std.proofs.Common.{◌≡◌, ℕ, ◌≤◌, Bool, true, false, List, [], ◌∷◌, ◌++◌, length, map, take, drop, reverse}
-use Rattle.std.proofs.Common.{refl, sym, ap, ◌∙◌, arith, length-append, append_assoc, ◌+◌, ◌<◌, Result, Ok, Err, ℤ}
-use Rattle.std.proofs.Common.{Option, suc, append-nil, ◌≢◌, get_or, None, Some, pos, ◌≤ℤ◌, OnOk, OnErr}
+use Rattle.std.proofs.Common.{◌≡◌, ℕ, ◌≤◌, Bool, true, false, List, [], ◌∷◌, ◌++◌, length, map, take, drop, reverse, refl, sym, ap, ◌∙◌, arith, length-append}
+use Rattle.std.proofs.Common.{append_assoc, ◌+◌, ◌<◌, Result, Ok, Err, ℤ, Option, suc, append-nil, ◌≢◌, get_or, None, Some, pos, ◌≤ℤ◌, OnOk, OnErr}
 use Rattle.std.specs.List.{All}
 use Rattle.std.proofs.lemmas.List.{reverse-append, take-append-le, take-take, take_all, length-take-le, map-append, drop_more}
 use Rattle.std.proofs.lemmas.List.Elements.{All-nil, All-cons, All-contains, All-push}
@@ -13,10 +12,10 @@ use Rattle.branching.proofs.OrderedPairs.{all_pairs, count_pairs}
 use Rattle.record_text.specs.declared.line.Line.{Line}
 use Rattle.record_text.specs.declared.line.Line.TheVariants as kind
 use Rattle.search_record.specs.Right.{NamesActivities, IsRightLine, IsRightPlace, AreRightLines, why_wrong, IsFirstWrong}
-use Rattle.search_record.specs.Due.{pairs_at, nodes_due, AreNested, IsOver, later_at, IsDueAlong, due_forced, due_split}
-use Rattle.search_record.specs.Due.{Place, place, places, child_places, due_after, Later}
-use Rattle.record_text.specs.Tree.{Tree, force, split, Trees, no_trees, tree, count_trees, pair_count, IsTree, AreTrees}
-use Rattle.record_text.specs.Tree.{lines_of, lines_of_all, IsTreeOf, solved, cut, dead}
+use Rattle.search_record.specs.Due.{pairs_at, nodes_due, AreNested, IsOver, later_at, IsDueAlong, due_forced, due_split, Place, place, places, child_places}
+use Rattle.search_record.specs.Due.{due_after, Later}
+use Rattle.record_text.specs.Tree.{Tree, force, split, Trees, no_trees, tree, count_trees, pair_count, IsTree, AreTrees, lines_of, lines_of_all, IsTreeOf}
+use Rattle.record_text.specs.Tree.{solved, cut, dead}
 use Rattle.std.proofs.lemmas.Int.{ints}
 use Rattle.network.specs.declared.parts.Lag.{Lag}
 use Rattle.network.specs.Walk.{weight, HasPositiveCycle, HasNoPositiveCycle}

@@ -1,6 +1,6 @@
 -- The lines of a trail's tree, one node after another.
-use Rattle.std.proofs.Common.{◌≡◌, ℕ, suc, ◌+◌, ◌*◌, ◌<◌, ◌≤◌, List, [], ◌∷◌, ◌++◌, length, map, reverse, refl, sym, ap}
-use Rattle.std.proofs.Common.{◌∙◌, subst, arith, append_assoc, length-append, Option, ℤ}
+use Rattle.std.proofs.Common.{◌≡◌, ℕ, suc, ◌+◌, ◌*◌, ◌<◌, ◌≤◌, List, [], ◌∷◌, ◌++◌, length, map, reverse, refl, sym, ap, ◌∙◌, subst, arith, append_assoc}
+use Rattle.std.proofs.Common.{length-append, Option, ℤ}
 use Rattle.std.specs.List.{All, AllZip}
 use Rattle.std.proofs.lemmas.List.{reverse-append}
 use Rattle.std.proofs.lemmas.List.Elements.{All-nil, All-cons, All-head, All-tail}
@@ -13,9 +13,8 @@ use Rattle.search_log.specs.RightTrail.{IsRightFate, IsRightEnding, IsRightTrail
 use Rattle.record_text.specs.declared.line.Line.{Line}
 use Rattle.record_text.specs.declared.line.Line.TheVariants as kind
 use Rattle.record_text.specs.Tree.{Tree, cut, dead, split, tree, lines_of, lines_of_all}
-use Rattle.search_record.specs.TrailTree.{with_forced, fate_tree, fate_trees, ending_tree, entry_tree, tree_within}
-use Rattle.search_record.specs.TrailTree.{tree_under, ending_line, ending_fates, node_lines, fate_lines, fates_behind}
-use Rattle.search_record.specs.TrailTree.{LeadsOn, LeadOn, ChildrenAreLater, IsNamed}
+use Rattle.search_record.specs.TrailTree.{with_forced, fate_tree, fate_trees, ending_tree, entry_tree, tree_within, tree_under, ending_line, ending_fates}
+use Rattle.search_record.specs.TrailTree.{node_lines, fate_lines, fates_behind, LeadsOn, LeadOn, ChildrenAreLater, IsNamed}
 
 -- ---- children have later names
 

@@ -1,6 +1,6 @@
 -- What a right record claims is true.
-use Rattle.std.proofs.Common.{◌≡◌, ◌-◌, ◌<◌, ◌≤◌, List, [], ◌∷◌, ◌++◌, length, sym, subst, ⊎_elim, arith, Option, Some}
-use Rattle.std.proofs.Common.{None, ℕ, ◌∙◌, ℤ, refl, ap, suc, pos, negsuc, ◌≤ℤ◌, map, append-nil}
+use Rattle.std.proofs.Common.{◌≡◌, ◌-◌, ◌<◌, ◌≤◌, List, [], ◌∷◌, ◌++◌, length, sym, subst, ⊎_elim, arith, Option, Some, None, ℕ, ◌∙◌, ℤ, refl, ap, suc, pos}
+use Rattle.std.proofs.Common.{negsuc, ◌≤ℤ◌, map, append-nil}
 use Rattle.std.specs.List.{All, Contains, AllByRecursion}
 use Rattle.std.proofs.lemmas.Bool.{cases_lt}
 use Rattle.std.proofs.lemmas.Int.{ints}
@@ -20,8 +20,8 @@ use Rattle.branching.proofs.Fates.{cut_holds}
 use Rattle.record_text.specs.declared.line.Claim.{Claim}
 use Rattle.record_text.specs.declared.line.Claim.TheVariants as claims
 use Rattle.record_text.specs.declared.line.Line.TheVariants as kind
-use Rattle.record_text.specs.Tree.{Tree, force, solved, cut, dead, split, Trees, tree, count_trees, IsTree, AreTrees}
-use Rattle.record_text.specs.Tree.{IsTreeOf, no_trees, lines_of, lines_of_all}
+use Rattle.record_text.specs.Tree.{Tree, force, solved, cut, dead, split, Trees, tree, count_trees, IsTree, AreTrees, IsTreeOf, no_trees, lines_of}
+use Rattle.record_text.specs.Tree.{lines_of_all}
 use Rattle.search_record.specs.Due.{place, places, child_places, Place}
 use Rattle.record_text.proofs.FirstWrong.{all_right, wrong_place, one_wrong, fault_is_wrong, other_is_none}
 use Rattle.search_record.specs.Right.{limit_of, IsRightPlace, AreRightStarts, RightIsTrue, AreRightLines, why_wrong_at, IsFirstWrong, IsRightLine, search_judge}

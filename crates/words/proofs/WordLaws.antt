@@ -1,8 +1,7 @@
 -- The words of a text, from its front.
-use Rattle.std.proofs.Common.{◌≡◌, ℕ, zero, suc, ◌+◌, ◌<◌, ◌≤◌, Bool, true, false, cond, not, List, [], ◌∷◌, length}
-use Rattle.std.proofs.Common.{take, drop, get_or, Option, Some, None, refl, sym, ap, ◌∙◌, add-one, add-zero, drop-drop}
-use Rattle.std.proofs.Common.{arith, nat_abs, ◌^◌, Result, Ok, rules, lit<, unwrap_or, ℤ, pos, IfSome, ltb-false}
-use Rattle.std.proofs.Common.{length-take, length-drop, get_or-drop, take_all}
+use Rattle.std.proofs.Common.{◌≡◌, ℕ, zero, suc, ◌+◌, ◌<◌, ◌≤◌, Bool, true, false, cond, not, List, [], ◌∷◌, length, take, drop, get_or, Option, Some, None}
+use Rattle.std.proofs.Common.{refl, sym, ap, ◌∙◌, add-one, add-zero, drop-drop, arith, nat_abs, ◌^◌, Result, Ok, rules, lit<, unwrap_or, ℤ, pos, IfSome}
+use Rattle.std.proofs.Common.{ltb-false, length-take, length-drop, get_or-drop, take_all}
 use Rattle.std.specs.List.{filter, slice_split, position, position_or_len, list_all}
 use Rattle.std.proofs.Math.Seq.{drop-cons, drop-length}
 use Rattle.std.proofs.lemmas.List.Quantifiers.{position-Some}

@@ -1,6 +1,6 @@
 -- Each step on the ceiling keeps the ceiling rule.
-use Rattle.std.proofs.Common.{◌≡◌, ◌≢◌, ℕ, zero, suc, ◌<◌, List, [], ◌∷◌, ◌++◌, length, All, Any, set, get_or, sym}
-use Rattle.std.proofs.Common.{subst, arith, ◌⊎◌, ◌≤◌, min, slice_index, slice_set, refl, inl, inr, le_refl}
+use Rattle.std.proofs.Common.{◌≡◌, ◌≢◌, ℕ, zero, suc, ◌<◌, List, [], ◌∷◌, ◌++◌, length, All, Any, set, get_or, sym, subst, arith, ◌⊎◌, ◌≤◌, min, slice_index}
+use Rattle.std.proofs.Common.{slice_set, refl, inl, inr, le_refl}
 use Rattle.std.proofs.lemmas.Grind.{common_steps}
 use Rattle.std.proofs.lemmas.List.Elements.{All-get_or, All-set, All-weaker, All-push}
 use mathlib.Core.Option.{some, some-injective, some-ne-none}

@@ -4,8 +4,7 @@ use Rattle.profile.specs.Orders.{key_at}
 use Rattle.bounds.proofs.Ranking.{ranked_start, ranked_new, ranked_same, last_least}
 use Rattle.bounds.proofs.Ranked.{amounts_rise}
 use Rattle.bounds.proofs.load.rank_keys.Goals as goal
-use Rattle.bounds.proofs.load.rank_keys.Goals.{then-count-eq0, then-count-eq0-via-then-count-eq0}
-use Rattle.bounds.proofs.load.rank_keys.Goals.{then-count-eq0-via-else-count-eq0+then-rising-count}
+use Rattle.bounds.proofs.load.rank_keys.Goals.{then-count-eq0, then-count-eq0-via-then-count-eq0, then-count-eq0-via-else-count-eq0+then-rising-count}
 use Rattle.bounds.proofs.load.rank_keys.Goals.{else-count-eq0+else-rising-count}
 
 pub loop-i-init : goal.loop-i-init

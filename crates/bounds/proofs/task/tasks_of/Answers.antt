@@ -1,5 +1,5 @@
-use Rattle.std.proofs.Common.{◌≡◌, refl, sym, ap, ◌∙◌, ℕ, ◌*◌, true, false, cond, List, [], ◌∷◌, ◌++◌, append-nil, map}
-use Rattle.std.proofs.Common.{unsigned_abs, rules, arith, w64, FitsSigned, nat_lt, lt-ltb, le-ltb}
+use Rattle.std.proofs.Common.{◌≡◌, refl, sym, ap, ◌∙◌, ℕ, ◌*◌, true, false, cond, List, [], ◌∷◌, ◌++◌, append-nil, map, unsigned_abs, rules, arith, w64}
+use Rattle.std.proofs.Common.{FitsSigned, nat_lt, lt-ltb, le-ltb}
 use Rattle.std.specs.List.{filter, range_with_len}
 use Rattle.std.proofs.lemmas.Int.{to_z-of_z}
 use Rattle.std.proofs.lemmas.List.FromFn.{filter_of_map_range_with_len_more}

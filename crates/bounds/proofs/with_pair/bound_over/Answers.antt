@@ -1,5 +1,5 @@
-use Rattle.std.proofs.Common.{◌≡◌, ◌∙◌, sym, ap, subst, rules, ℕ, ◌-◌, ◌<◌, ◌≤◌, ◌≤ℤ◌, arith, ℤ, pos, List, length}
-use Rattle.std.proofs.Common.{get_or, [], ◌∷◌, w64, to_z, FitsSigned, ◌++◌, unsigned_abs}
+use Rattle.std.proofs.Common.{◌≡◌, ◌∙◌, sym, ap, subst, rules, ℕ, ◌-◌, ◌<◌, ◌≤◌, ◌≤ℤ◌, arith, ℤ, pos, List, length, get_or, [], ◌∷◌, w64, to_z, FitsSigned}
+use Rattle.std.proofs.Common.{◌++◌, unsigned_abs}
 use Rattle.std.specs.Int.{int_max}
 use Rattle.std.specs.Option.{unwrap_or}
 use Rattle.std.proofs.lemmas.Int.{to_z-of_z, ints}

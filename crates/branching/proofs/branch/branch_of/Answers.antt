@@ -1,6 +1,5 @@
 use Rattle.std.proofs.Common.{refl, ap, ◌∙◌, rules, ◌≤ℤ◌, ◌∷◌, ◌++◌, [], w64, SFits}
 use Rattle.std.proofs.lemmas.Int.{to_z-of_z}
-use Rattle.network.specs.declared.parts.Pair.{Pair}
 use Rattle.network.specs.Problem.{pair_arc}
 use Rattle.network.specs.Walk.{IsProjectMatrix, Rows}
 use Rattle.longest_path.specs.Insert.{rows_over}

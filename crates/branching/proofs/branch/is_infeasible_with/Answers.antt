@@ -1,5 +1,4 @@
-use Rattle.std.proofs.Common.{◌≡◌, sym, ap, ◌∙◌, rules, pos, ◌+ℤ◌, ◌<ℤ◌, ◌≤ℤ◌, Some, true, false, ◌∷◌, ◌++◌, [], w64, SFits, to_z, of_z}
-use Rattle.std.specs.Int.Signed.{lt_z}
+use Rattle.std.proofs.Common.{◌≡◌, sym, ap, ◌∙◌, rules, ◌+ℤ◌, Some, ◌∷◌, ◌++◌, [], w64, SFits, to_z, of_z}
 use Rattle.std.proofs.lemmas.Int.{to_z-of_z}
 use Rattle.std.proofs.lemmas.Bool.{OnTrue_from, OnFalse_from}
 use Rattle.network.specs.Problem.{Problem, duration, pair_arc}

@@ -1,4 +1,4 @@
-use Rattle.std.proofs.Common.{◌≡◌, ◌∙◌, ap, rules, ℤ, ◌≤ℤ◌, ◌<ℤ◌, List, ◌++◌, Some, subst, arith, w64, SFits}
+use Rattle.std.proofs.Common.{◌≡◌, rules, ℤ, ◌≤ℤ◌, ◌<ℤ◌, List, ◌++◌, Some, arith, w64, SFits}
 use Rattle.std.proofs.lemmas.Int.{ints, to_z-of_z, by_lt_z}
 use Rattle.std.specs.Int.{int_min}
 use Rattle.std.proofs.lemmas.List.Elements.{All-append, All-weaker, Contains-append_left, Contains-append_right}

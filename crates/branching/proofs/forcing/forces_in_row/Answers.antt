@@ -1,16 +1,13 @@
-use Rattle.std.proofs.Common.{◌≡◌, refl, sym, ◌∙◌, rules, w64, ℕ, ◌<◌, ◌≤◌, ◌+ℤ◌, Some, None, length, get_or, ◌↔◌, SFits, take_all}
+use Rattle.std.proofs.Common.{◌≡◌, refl, sym, ◌∙◌, rules, w64, ◌<◌, ◌≤◌, Some, None, length, SFits, take_all}
 use Rattle.std.proofs.lemmas.Int.{to_z-of_z}
-use Rattle.std.specs.Bool.{IsTrue}
 use Rattle.std.specs.List.{All}
-use Rattle.network.specs.declared.parts.Pair.{Pair}
 use Rattle.network.specs.Problem.{duration, pair_arc, pair_of}
 use Rattle.network.specs.Walk.{entry}
-use Rattle.longest_path.specs.Matrix.{greater, joined}
+use Rattle.longest_path.specs.Matrix.{joined}
 pub use Rattle.forbidden_sets.specs.declared.incompatible.Incompatible.{Incompatible}
 use Rattle.branching.specs.Forcing.{IsForcedWith}
 use Rattle.forbidden_sets.specs.Incompatible.{pairs_before}
-use Rattle.branching.proofs.Forcings.{unless, when, forced_over, no_way, none_before, none_over, none_from, none_of_all}
-use Rattle.branching.proofs.Forcings.{pair_more, some_of_row, row_at, both_named}
+use Rattle.branching.proofs.Forcings.{unless, when, no_way, none_before, none_over, none_of_all, pair_more, some_of_row, row_at, both_named}
 use Rattle.branching.proofs.forcing.forces_in_row.Goals as goal
 use Rattle.branching.proofs.forcing.forces_in_row.Goals.{After-then_arc}
 

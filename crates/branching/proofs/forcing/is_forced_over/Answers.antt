@@ -3,7 +3,6 @@ use Rattle.std.proofs.lemmas.Int.{to_z-of_z}
 use Rattle.std.specs.Bool.{IsTrue}
 use Rattle.network.specs.Walk.{entry}
 use Rattle.longest_path.specs.Matrix.{greater}
-use Rattle.branching.specs.Forcing.{IsForcedWith}
 use Rattle.branching.proofs.Forcings.{forced_over, no_way, none_from}
 use Rattle.branching.proofs.forcing.is_forced_over.Goals as goal
 

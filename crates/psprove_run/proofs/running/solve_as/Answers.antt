@@ -1,5 +1,4 @@
-use Rattle.std.proofs.Common.{◌≡◌, ◌≢◌, ◌∙◌, ◌<◌, Bool, true, false, ℕ, List, Ok, Err, None, refl, sym, ap, arith, rules}
-use Rattle.std.specs.Io.KnownBytes.{Appends}
+use Rattle.std.proofs.Common.{◌≡◌, ◌∙◌, false, ℕ, Err, ap, arith}
 use Rattle.answers.specs.declared.fault.Fault.TheVariants as faults
 use Rattle.psprove_run.specs.Recording.{IsRecorder}
 use Rattle.psprove_run.proofs.Endings.{not_failed, replied, took_all, unanswered}

@@ -1,6 +1,5 @@
 use Rattle.std.proofs.Common.{ap, sym, rules, ◌++◌, List, ℕ}
 use Rattle.lemma_record.specs.Texts.{whole}
-use Rattle.lemma_book.specs.Ledger.{Claims}
 use Rattle.lemma_log.specs.Text.{IsWritableClaim}
 use Rattle.lemma_record.specs.LemmaBook.{BookOf, IsLogOf}
 use Rattle.lemma_record.proofs.Booked.{best_shown, closed, feasible_shown, small_fits}
