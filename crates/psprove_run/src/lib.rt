@@ -12,7 +12,6 @@ mod host;
 mod jobs;
 mod joined;
 mod joining;
-mod judging;
 mod pause;
 mod progress;
 mod recorder;

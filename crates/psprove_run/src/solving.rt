@@ -12,9 +12,8 @@ ghost use Rattle.psprove_run.specs.Story.{IsShownReply, IsStartedReply, Says, co
 use crate::asked::SolveOptions;
 use crate::host::Host;
 use crate::jobs::{SearchFault, SearchResult, searched};
-use crate::judging::outcome_of;
 use crate::recorder::{Before, Recorder};
-use answers::{Answer, Fault, Figures, figured_answer, solved_answer};
+use answers::{Answer, Fault, Figures, figured_answer, outcome_of, solved_answer};
 use lemma_record::{Blank, Naming};
 use network::{Project, Schedule};
 use plain_search::Outcome;

@@ -1,4 +1,4 @@
-//! The outcome that a book shows: what the searches say counts for nothing.
+//! The outcome that a book of lemmas shows: what the searches say counts for nothing.
 
 ghost use Rattle.std.specs.Prelude.{◌≡◌, Some, IsTrue, IfOk, IfErr, IfSome, OnOk};
 ghost use Rattle.std.specs.Arc.{arc_value};
@@ -9,7 +9,7 @@ ghost use Rattle.network.specs.Schedule.{makespan as makespan_of};
 ghost use Rattle.answers.specs.Faults.{exit_of, IsNoDeviceFault};
 ghost use Rattle.plain_search.specs.Verdicts.{IsTrueOf, verdict_of};
 
-use answers::Fault;
+use crate::fault::Fault;
 use lemma_record::Shown;
 use network::{MAX_START, Project, Schedule, Verdict};
 use plain_search::Outcome;
@@ -70,11 +70,7 @@ fn shortest_of(best: Option<Schedule>, makespan: i64) -> Result<Schedule, Fault>
 }
 
 /// The outcome that is proved, with the best schedule.
-pub(crate) fn outcome_of(
-    alloc: Global,
-    project: &Arc<Project>,
-    shown: &Shown,
-) -> Result<Outcome, Fault>
+pub fn outcome_of(alloc: Global, project: &Arc<Project>, shown: &Shown) -> Result<Outcome, Fault>
     requires verdict { IsTrueVerdict (arc_value project.now) shown.now.proved }
     requires feasible { IfSome shown.now.best (λ starts. IsFeasible (arc_value project.now) starts.items) }
     ensures claims { IfOk result (λ outcome. shown.now.proved ≡ verdict_of outcome) }
