@@ -3,6 +3,7 @@
 
 Plays each paragraph of tests/books.txt by the program of crates/book_events, and compares each reply. The last line counts
 the replies."""
+import re
 from collections.abc import Iterator, Sequence
 
 import harness
@@ -19,11 +20,11 @@ def paragraphs() -> Iterator[tuple[str, list[str], list[str], list[tuple[str, st
 
 
 def played(program: str, projects: Sequence[str], steps: Sequence[str]) -> list[str]:
-    """What the program says, a line a step; after a failure its fault."""
+    """What the program says, a reply a step; after a failure its fault."""
     text = b";".join((INPUTS / f"{name}.sch").read_bytes() for name in projects)
     status, out, fault = harness.ended([program, *steps], text)
-    lines = [line for line in out.decode().splitlines() if line.split(" ")[0] not in ("node", "found", "kid")]
-    return lines + ([] if status == 0 else [f"exit {status}: {fault.decode()}"])
+    replies = re.sub(r"\n(?=found |kid )", ", ", out.decode()).splitlines()
+    return replies + ([] if status == 0 else [f"exit {status}: {fault.decode()}"])
 
 
 def is_as_told(line: str, reply: str) -> bool:
@@ -36,7 +37,7 @@ def verdicts(words: Sequence[str]) -> Verdicts:
     o = parser.parse_args(words)
     for title, projects, quiet, steps in paragraphs():
         if o.only in title:
-            lines = played(o.program, projects, [*quiet, *(step for step, _ in steps)])
+            lines = played(o.program, projects, [*quiet, *(step for step, _ in steps)])[len(quiet) :]
             for (step, reply), line in zip(steps, [*lines, *["nothing"] * len(steps)]):
                 yield f"{title}, {step}", None if is_as_told(line, reply) else f"{line!r}, not {reply!r}"
 

@@ -1,11 +1,11 @@
 #!/usr/bin/env python3
 """tests/test_allocations.py [--only WORD] [--most N]
 
-Refuses each allocation of each test of some crates in turn, alone and with the next. The tests are those of the
-programs crates/NAME/out/NAME_tests, which `rt ci` and `rt test` leave. A test has to pass, or to end with want of
-memory (or of a thread) as its error, or with an assertion that found that in place of what it wanted: any other end is
-an answer that changed. Of a test with more than N allocations (300 by default) so many are refused, spread evenly, and
-fewer of one that takes long.
+Refuses each allocation of each test in turn, alone and with the next. The tests are those of the programs
+crates/NAME/out/NAME_tests, which `rt ci` and `rt test` leave. A test has to pass, or to end with want of memory (or of a
+thread) as its error, or with an assertion that found that in place of what it wanted: any other end is an answer that
+changed. Of a test with more than N allocations (300 by default) so many are refused, spread evenly, and fewer of one that
+takes long.
 
 Prints which tests are covered in part. The last line counts the runs."""
 import functools
@@ -34,8 +34,8 @@ ENDS = re.compile(
     rb"|assertion `left == right` failed(?:.*\n)*  left: (?:Some\(|Err\()?" + WANT + rb"\)?\n right: (?:.*\n)*"
     rb"|(?:.*\n)*.* -> (?:.*\n)*.*: " + TOLD + rb"\n"
 )
-# The crates whose tests hold so.
-CRATES = ("words", "node_tests", "run_tests")
+# The crates with tests.
+CRATES = ("node_tests", "run_tests")
 SECONDS = 10  # so long may the runs of one test take together
 
 

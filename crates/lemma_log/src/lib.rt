@@ -17,8 +17,6 @@ mod number;
 mod overload;
 mod read;
 mod signed;
-#[cfg(test)]
-mod tests;
 mod title;
 mod writable;
 mod write;

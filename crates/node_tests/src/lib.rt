@@ -1,4 +1,4 @@
-//! Tests of what a node is made of: matrices, least starts, overloads, sets, bounds and expansions.
+//! Tests of what a node is made of: matrices, heads and tails, overloads, sets, bounds and lists of children.
 //!
 //! They stand apart from the crates that they test, and use what these have public, since a crate with tests is proved
 //! twice.
@@ -9,11 +9,7 @@ mod expansions;
 #[cfg(test)]
 mod least_starts;
 #[cfg(test)]
-mod logs;
-#[cfg(test)]
 mod matrices;
-#[cfg(test)]
-mod orders;
 #[cfg(test)]
 mod overloads;
 mod projects;
@@ -23,6 +19,6 @@ mod sets;
 mod values;
 
 pub use projects::{
-    are_starts, backward_lag, both_orders_dead, lag, one_machine, pair, project, three_in_turn,
-    three_on_two, two_between, with_one_resource,
+    are_starts, backward_lag, both_orders_dead, lag, one_machine, pair, project, three_on_two,
+    two_between, with_one_resource,
 };

@@ -1,97 +1,98 @@
-//! Resource use and overloads, against plain loops.
+//! Overloads of seeded projects, against plain loops.
 
+ghost use Rattle.std.specs.Prelude.{◌<◌};
+ghost use Rattle.network.specs.Problem.{resource_count};
 ghost use Rattle.profile.specs.Overloads.{IsSweepFor};
 
-use crate::projects::{are_starts, one_machine, project};
+use crate::projects::{are_starts, project};
 use network::Project;
-use profile::{Overload, OverloadSweep, first_overload, overloads, use_at};
+use profile::{Overload, OverloadSweep};
 use std::alloc::{AllocError, Global};
 use std::process::Abort;
 use std::test::Fail;
 
-mod all_starts;
-mod seeded;
-
-const LAST_TIME: i64 = 9_999_999_999;
-
-fn used(rt: &impl Abort, project: &Project, starts: &[i64], time: i64) -> u64 {
-    assert!(rt; are_starts(project, starts));
-    assert!(rt; -LAST_TIME <= time && time <= LAST_TIME);
-    assert!(rt; 0 < project.resource_count());
-    use_at(project, starts, time, 0)
+/// Numbers that look thrown, the same in each run.
+#[derive(Drop)]
+struct Dice {
+    state: u64,
 }
 
-fn first(
-    rt: &impl Abort,
-    alloc: Global,
-    project: &Project,
-    starts: &[i64],
-) -> Result<Option<(Overload, Vec<usize>)>, AllocError> {
-    assert!(rt; are_starts(project, starts));
-    first_overload(alloc, project, starts)
-}
-
-fn all(
-    rt: &impl Abort,
-    alloc: Global,
-    project: &Project,
-    starts: &[i64],
-) -> Result<Vec<Overload>, AllocError> {
-    assert!(rt; are_starts(project, starts));
-    overloads(alloc, project, starts)
-}
-
-/// Three activities of 2 periods that ask for one unit each of a resource of 2, and of one of 3.
-fn three_activities(alloc: Global) -> Result<Project, Fail> {
-    let demands: [&[i64]; 5] = [&[0, 0], &[1, 1], &[1, 1], &[1, 1], &[0, 0]];
-    project(alloc, &[0, 2, 2, 2, 0], &demands, &[3, 2], &[])
-}
-
-#[test]
-fn use_rises_where_an_activity_starts(rt: HostRuntime) -> Result<(), Fail> {
-    let project = one_machine(rt.alloc(), &[])?;
-    let starts = [0, 0, 2, 6];
-    for (time, expected) in [(-1, 0), (0, 1), (1, 1), (2, 2), (3, 1), (5, 1), (6, 0)] {
-        assert_eq!(rt; used(&rt, &project, &starts, time), expected, "at {time}");
+impl Dice {
+    /// A number below the count of sides.
+    fn roll(&mut self, sides: u32) -> i64
+        requires { 0 < sides }
+    {
+        let next = self.state.wrapping_mul(6_364_136_223_846_793_005);
+        self.state = next.wrapping_add(1_442_695_040_888_963_407);
+        i64::from((self.state / 4_294_967_296 % u64::from(sides)) as u32)
     }
-    Ok(())
 }
 
-#[test]
-fn an_overload_between_two_starts(rt: HostRuntime) -> Result<(), Fail> {
-    let project = one_machine(rt.alloc(), &[])?;
-    let found = first(&rt, rt.alloc(), &project, &[0, 0, 2, 6])?;
-    let (overload, running) = found.ok_or("no overload")?;
-    assert_eq!(rt; overload.time, 2);
-    assert_eq!(rt; overload.resource, 0);
-    assert_eq!(rt; running.as_slice(), [1, 2].as_slice());
-    let overloads = all(&rt, rt.alloc(), &project, &[0, 0, 2, 6])?;
-    let expected = [Overload {
-        time: 2,
-        resource: 0,
-        used: 2,
-    }];
-    assert_eq!(rt; overloads.as_slice(), expected.as_slice());
-    Ok(())
+/// Six numbers of the dice, the first and the last of which are 0.
+fn amounts(dice: &mut Dice, sides: u32) -> [i64; 6]
+    requires { 0 < sides }
+{
+    let [a, b, c, d] = [
+        dice.roll(sides),
+        dice.roll(sides),
+        dice.roll(sides),
+        dice.roll(sides),
+    ];
+    [0, a, b, c, d, 0]
 }
 
-#[test]
-fn one_after_another_there_is_no_overload(rt: HostRuntime) -> Result<(), Fail> {
-    let project = one_machine(rt.alloc(), &[])?;
-    assert!(rt; first(&rt, rt.alloc(), &project, &[0, 0, 3, 7])?.is_none());
-    assert!(rt; all(&rt, rt.alloc(), &project, &[0, 4, 0, 7])?.is_empty());
-    Ok(())
+/// Four activities and two resources by the dice.
+fn seeded_project(alloc: Global, dice: &mut Dice) -> Result<Project, Fail> {
+    let durations = amounts(dice, 5);
+    let [_, a, b, c, d, _] = amounts(dice, 3);
+    let [_, e, f, g, h, _] = amounts(dice, 3);
+    let demands: [&[i64]; 6] = [&[0, 0], &[a, e], &[b, f], &[c, g], &[d, h], &[0, 0]];
+    project(alloc, &durations, &demands, &[3, 2], &[])
 }
 
-#[test]
-fn the_second_resource_alone_is_overloaded(rt: HostRuntime) -> Result<(), Fail> {
-    let project = three_activities(rt.alloc())?;
-    let found = first(&rt, rt.alloc(), &project, &[0, 3, 3, 4, 6])?;
-    let (overload, running) = found.ok_or("no overload")?;
-    assert_eq!(rt; overload.time, 4);
-    assert_eq!(rt; overload.resource, 1);
-    assert_eq!(rt; running.as_slice(), [1, 2, 3].as_slice());
-    Ok(())
+/// The activities that run at a time: those that have started and haven't ended.
+fn running_at(
+    alloc: Global,
+    project: &Project,
+    starts: &[i64],
+    time: i64,
+) -> Result<Vec<usize>, AllocError> {
+    let mut running = Vec::new(alloc);
+    for activity in 0..project.activity_count() {
+        let start = starts.get(activity).copied().unwrap_or(0);
+        if start <= time && time < start.saturating_add(project.duration(activity)) {
+            running.push(activity)?;
+        }
+    }
+    Ok(running)
+}
+
+/// How much of a resource the activities use together.
+fn used_by(project: &Project, resource: usize, running: &[usize]) -> u64
+    requires { resource < resource_count project.now }
+{
+    let mut used: u64 = 0;
+    for activity in running {
+        if *activity < project.activity_count() {
+            used = used.saturating_add(project.demand(resource, *activity));
+        }
+    }
+    used
+}
+
+/// The first resource that these activities overload at a time.
+fn plain_overload(project: &Project, running: &[usize], time: i64) -> Option<Overload> {
+    for resource in 0..project.resource_count() {
+        let used = used_by(project, resource, running);
+        if used > project.capacity(resource) {
+            return Some(Overload {
+                time,
+                resource,
+                used,
+            });
+        }
+    }
+    None
 }
 
 /// The first overload of the starts, and the activities that run then, by a sweep that may have been used
@@ -109,33 +110,45 @@ fn next(
     sweep.first(project, starts)
 }
 
-/// That all three activities together overload the second resource at this time.
-fn check_three(
+/// That the sweep finds the first overload of all units of time up to 20.
+fn assert_first(
     rt: &impl Abort,
+    alloc: Global,
     sweep: &mut OverloadSweep,
     project: &Project,
     starts: &[i64],
-    time: i64,
-)
+) -> Result<(), Fail>
     requires { IsSweepFor project.now sweep.old }
     ensures { IsSweepFor project.now sweep.new }
 {
-    let overload = Overload {
-        time,
-        resource: 1,
-        used: 3,
-    };
-    assert_eq!(rt; next(rt, sweep, project, starts), Some(overload));
-    assert_eq!(rt; sweep.running(), [1, 2, 3].as_slice());
+    let found = next(rt, sweep, project, starts);
+    for time in 0..20 {
+        let running = running_at(alloc, project, starts, time)?;
+        if let Some(overload) = plain_overload(project, &running, time) {
+            assert_eq!(rt; found, Some(overload));
+            assert_eq!(rt; sweep.running(), running.as_slice());
+            return Ok(());
+        }
+    }
+    assert!(rt; found.is_none());
+    Ok(())
+}
+
+/// The same for two lists of starts of a project of the dice, by one sweep.
+fn assert_by_dice(rt: &impl Abort, alloc: Global, dice: &mut Dice) -> Result<(), Fail> {
+    let project = seeded_project(alloc, dice)?;
+    let mut sweep = OverloadSweep::new(alloc, &project)?;
+    let starts = amounts(dice, 12);
+    assert_first(rt, alloc, &mut sweep, &project, &starts)?;
+    let starts = amounts(dice, 12);
+    assert_first(rt, alloc, &mut sweep, &project, &starts)
 }
 
 #[test]
-fn one_sweep_for_one_list_of_starts_after_another(rt: HostRuntime) -> Result<(), Fail> {
-    let project = three_activities(rt.alloc())?;
-    let mut sweep = OverloadSweep::new(rt.alloc(), &project)?;
-    check_three(&rt, &mut sweep, &project, &[0, 3, 3, 4, 6], 4);
-    assert!(rt; next(&rt, &mut sweep, &project, &[0, 6, 0, 3, 8]).is_none());
-    check_three(&rt, &mut sweep, &project, &[0, 1, 0, 1, 3], 1);
-    assert!(rt; next(&rt, &mut sweep, &project, &[0, 4, 5, 0, 7]).is_none());
+fn a_thousand_projects_are_as_the_plain_loops(rt: HostRuntime) -> Result<(), Fail> {
+    let mut dice = Dice { state: 7 };
+    for _ in 0..1_000 {
+        assert_by_dice(&rt, rt.alloc(), &mut dice)?;
+    }
     Ok(())
 }

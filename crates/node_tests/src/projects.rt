@@ -87,11 +87,6 @@ pub fn both_orders_dead(alloc: Global) -> Result<Project, Fail> {
     one_machine(alloc, &[lag(1, 2, 0), lag(2, 1, -2)])
 }
 
-/// Three activities of 3, 4 and 2 periods that ask for the one unit of a resource.
-pub fn three_in_turn(alloc: Global, lags: &[Lag]) -> Result<Project, Fail> {
-    with_one_resource(alloc, &[0, 3, 4, 2, 0], &[0, 1, 1, 1, 0], 1, lags)
-}
-
 /// Three activities of 2 periods that ask for one of two units of a resource.
 pub fn three_on_two(alloc: Global) -> Result<Project, Fail> {
     with_one_resource(alloc, &[0, 2, 2, 2, 0], &[0, 1, 1, 1, 0], 2, &[])

@@ -1,14 +1,11 @@
 //! Bounds of small projects.
 
-ghost use Rattle.std.specs.Prelude.{◌≡◌, ◌<◌, [], ◌∷◌, IsTrue, IfOk};
-ghost use Rattle.longest_path.specs.Insert.{ClosesNone};
-ghost use Rattle.network.specs.Problem.{resource_count, NameActivities, pair_arc};
-ghost use Rattle.bounds.specs.Bound.{IsMatrixFor, IsWorkspaceFor};
+ghost use Rattle.std.specs.Prelude.{◌<◌, IsTrue, IfOk};
+ghost use Rattle.network.specs.Problem.{resource_count, NameActivities};
+ghost use Rattle.bounds.specs.Bound.{IsMatrixFor};
 
-use crate::projects::{
-    backward_lag, lag, one_machine, pair, three_on_two, two_between, with_one_resource,
-};
-use bounds::{Workspace, bound, bound_with, critical, energy};
+use crate::projects::{lag, one_machine, pair, three_on_two, two_between, with_one_resource};
+use bounds::{bound, critical, energy};
 use longest_path::{Matrix, PathFault, heads, longest, tails};
 use network::{Pair, Project};
 use std::alloc::{AllocError, Global};
@@ -32,18 +29,6 @@ fn matrix_of(alloc: Global, project: &Project, pairs: &[Pair]) -> Result<Matrix,
 {
     prove!(project.activity_count() >= 2);
     longest(alloc, project, pairs)
-}
-
-/// Whether the arc of a pair closes no walk of positive weight.
-fn closes_none(project: &Project, matrix: &Matrix, pair: Pair) -> bool
-    requires matrix { IsMatrixFor project.now matrix.now }
-    requires named { NameActivities project.now (pair ∷ []) }
-    ensures { IsTrue result → ClosesNone (pair_arc project.now pair) matrix.now }
-{
-    match matrix.get(pair.after, pair.before) {
-        Some(back) => back + project.duration(pair.before) <= 0,
-        None => true,
-    }
 }
 
 /// The work between a and b for a resource, none where no activity lies between.
@@ -115,72 +100,6 @@ fn values(
     Ok(Some([critical(&matrix), energy, bound]))
 }
 
-/// Asserts that the matrix with the first pairs gives the bound with the second pair more. This holds if both matrices
-/// are there and the ceiling is above the bound. Otherwise it gives a number between both. `above` says how far the
-/// ceiling is above the bound.
-fn assert_same_with(
-    rt: &impl Abort,
-    alloc: Global,
-    project: &Project,
-    workspace: &mut Workspace,
-    first: Pair,
-    second: Pair,
-    above: Option<i64>,
-) -> Result<(), Fail>
-    requires { IsWorkspaceFor project.now workspace.old }
-    ensures { workspace.new ≡ workspace.old }
-{
-    assert!(rt; are_named(project, &[first]));
-    assert!(rt; are_named(project, &[second]));
-    let Ok(matrix) = matrix_of(alloc, project, &[first]) else {
-        return Ok(());
-    };
-    if closes_none(project, &matrix, second) {
-        let Some(of_both) = values(rt, alloc, project, &[first, second])? else {
-            return Err("there is no matrix".into());
-        };
-        let exact = of_both[2];
-        assert_eq!(rt; bound_with(alloc, project, &matrix, second)?, exact);
-        let ceiling = match above {
-            Some(above) => Some(exact.saturating_add(above)),
-            None => None,
-        };
-        let found = workspace.bound_under(project, &matrix, second, ceiling);
-        let top = ceiling.unwrap_or(i64::MAX);
-        assert_eq!(rt; found.min(top), exact.min(top));
-        assert!(rt; found <= exact);
-    }
-    Ok(())
-}
-
-/// The same for all two pairs and some ceilings, by one workspace.
-fn assert_same_in_one(rt: &impl Abort, alloc: Global, project: &Project) -> Result<(), Fail> {
-    let mut workspace = Workspace::new(alloc, project)?;
-    let pairs = ordered_pairs(alloc, project)?;
-    for first in &pairs {
-        for second in &pairs {
-            for above in [None, Some(-2), Some(0), Some(1)] {
-                let (first, second) = (*first, *second);
-                assert_same_with(rt, alloc, project, &mut workspace, first, second, above)?;
-            }
-        }
-    }
-    Ok(())
-}
-
-/// All ordered pairs of activities.
-fn ordered_pairs(alloc: Global, project: &Project) -> Result<Vec<Pair>, Fail> {
-    let mut pairs = Vec::new(alloc);
-    for before in 0..project.activity_count() {
-        for after in 0..project.activity_count() {
-            if before != after {
-                pairs.push(Pair { before, after })?;
-            }
-        }
-    }
-    Ok(pairs)
-}
-
 #[test]
 fn bounds_of_projects(rt: HostRuntime) -> Result<(), Fail> {
     let alloc = rt.alloc();
@@ -204,30 +123,6 @@ fn bounds_of_projects(rt: HostRuntime) -> Result<(), Fail> {
         }
         assert_eq!(rt; values(&rt, alloc, &project, &[pair])?, Some(wanted));
         assert_eq!(rt; values(&rt, alloc, &project, &[none, pair])?, Some(wanted));
-    }
-    Ok(())
-}
-
-/// Tries any two pairs with one workspace, and up to three pairs without one. A pair that comes twice adds nothing.
-#[test]
-fn all_small_lists_of_pairs(rt: HostRuntime) -> Result<(), Fail> {
-    let alloc = rt.alloc();
-    for project in [
-        one_machine(alloc, &[])?,
-        three_on_two(alloc)?,
-        backward_lag(alloc)?,
-        two_between(alloc)?,
-    ] {
-        assert_same_in_one(&rt, alloc, &project)?;
-        values(&rt, alloc, &project, &[])?;
-        let pairs = ordered_pairs(alloc, &project)?;
-        for first in &pairs {
-            for second in &pairs {
-                for third in &pairs {
-                    values(&rt, alloc, &project, &[*first, *second, *third])?;
-                }
-            }
-        }
     }
     Ok(())
 }

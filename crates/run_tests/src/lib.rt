@@ -9,8 +9,6 @@ mod ceilings;
 #[cfg(test)]
 mod gates;
 #[cfg(test)]
-mod growing_text;
-#[cfg(test)]
 mod played;
 #[cfg(test)]
 mod workers;

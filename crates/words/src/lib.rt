@@ -6,8 +6,6 @@
 
 mod numeral;
 mod split;
-#[cfg(test)]
-mod tests;
 
 pub use numeral::{MAX_DIGITS, integer, natural};
 pub use split::{split_once, split_word};
