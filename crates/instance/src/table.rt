@@ -57,11 +57,18 @@ impl<T: Copy> Table<T> {
 
     /// So many places, all of one value.
     pub fn filled(alloc: Global, count: usize, value: T, rest: T) -> Result<Table<T>> {
-        let mut items = Vec::with_capacity(alloc, count)?;
+        let mut table = Table::new(alloc, rest);
+        table.fill(count, value)?;
+        Ok(table)
+    }
+
+    /// So many places more, all of one value.
+    pub fn fill(&mut self, count: usize, value: T) -> Result<()> {
+        self.items.reserve_exact(count)?;
         for _ in 0..count {
-            items.push(value)?;
+            self.items.push(value)?;
         }
-        Ok(Table::of(items, rest))
+        Ok(())
     }
 
     /// How many places there are.

@@ -91,29 +91,35 @@ impl<'a> Cliques<'a> {
     /// Cliques of given members, which rise.
     pub fn new(instance: &'a Instance, edges: &Edges, found: &Rows<u32>) -> Result<Cliques<'a>> {
         let (alloc, (members, short)) = (instance.alloc, parted(instance, found)?);
-        let (all, count) = (members.values.items.len(), members.count() as usize);
         let mut cliques = Cliques {
             instance,
             windows: Rows::new(alloc, Window::default()),
             turned: Rows::new(alloc, Window::default()),
             short,
             members,
-            before: Table::filled(alloc, all, 0, 0)?,
-            after: Table::filled(alloc, all, 0, 0)?,
-            news: Table::filled(
-                alloc,
-                count,
-                CliqueChanges::default(),
-                CliqueChanges::default(),
-            )?,
+            before: Table::new(alloc, 0),
+            after: Table::new(alloc, 0),
+            news: Table::new(alloc, CliqueChanges::default()),
             todo: Vec::new(alloc),
             seats: Rows::new(alloc, Seat::default()),
             pairs: Rows::new(alloc, Seats::default()),
             queue: 0,
         };
-        cliques.seat_all()?;
-        cliques.relate_all(edges)?;
+        cliques.make_places(edges)?;
         Ok(cliques)
+    }
+
+    /// Makes a place for each member and each clique, and fills them.
+    fn make_places(&mut self, edges: &Edges) -> Result<()> {
+        let (all, count) = (
+            self.members.values.items.len(),
+            self.members.count() as usize,
+        );
+        self.before.fill(all, 0)?;
+        self.after.fill(all, 0)?;
+        self.news.fill(count, CliqueChanges::default())?;
+        self.seat_all()?;
+        self.relate_all(edges)
     }
 
     /// Lists the windows of all members, and the cliques of each activity. All are to be looked at.

@@ -288,8 +288,13 @@ impl Lemmas {
         let empty = Lemmas::new(self.alloc, narrow(self.watched.len()))?;
         let bump = self.bump;
         let old = mem::replace(self, Lemmas { bump, ..empty });
+        self.take_rest(&old, &goes.items, trail)
+    }
+
+    /// Takes those of old lemmas that don't go, without the literals that fail. Gives the numbers of those that go.
+    fn take_rest(&mut self, old: &Lemmas, goes: &[bool], trail: &Trail) -> Result<Vec<u32>> {
         let mut gone = Vec::new(self.alloc);
-        for (head, goes) in old.heads.items.iter().zip(&goes.items) {
+        for (head, goes) in old.heads.items.iter().zip(goes) {
             let literals = old.literals(head.place).iter().copied();
             let open = literals.filter(|literal: &Literal| !trail.fails(*literal));
             let open: Vec<Literal> = open.collect(self.alloc)?;

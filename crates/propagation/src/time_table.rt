@@ -52,33 +52,52 @@ pub struct TimeTable<'a> {
     queue: u32,
 }
 
+/// The capacities of some resources. There is room for all in the others.
+fn capacities_of(instance: &Instance, resources: &[u32]) -> Result<Table<i32>> {
+    let kinds = instance.capacities.items.len();
+    let mut capacities = Table::filled(instance.alloc, kinds, i32::MAX, 0)?;
+    for resource in resources {
+        capacities[*resource] = instance.capacities[*resource];
+    }
+    Ok(capacities)
+}
+
 impl<'a> TimeTable<'a> {
     /// The time table of some resources. There is room for all in the others.
     pub fn new(instance: &'a Instance, resources: &[u32]) -> Result<TimeTable<'a>> {
-        let (alloc, count) = (instance.alloc, instance.count() as usize);
-        let kinds = instance.capacities.items.len();
-        let mut capacities = Table::filled(alloc, kinds, i32::MAX, 0)?;
-        for resource in resources {
-            capacities[*resource] = instance.capacities[*resource];
-        }
+        let alloc = instance.alloc;
+        let capacities = capacities_of(instance, resources)?;
         let mut table = TimeTable {
             instance,
-            durations: Table::filled(alloc, count, 0, 0)?,
-            greatest_demands: Table::filled(alloc, kinds, 0, 0)?,
-            rooms: Table::filled(alloc, kinds, 0, 0)?,
+            durations: Table::new(alloc, 0),
+            greatest_demands: Table::new(alloc, 0),
+            rooms: Table::new(alloc, 0),
             profile: Profile::new(alloc, instance.count(), &capacities.items)?,
-            parts: Table::filled(alloc, count, NO_PART, NO_PART)?,
+            parts: Table::new(alloc, NO_PART),
             changes: Table::new(alloc, (0, NO_PART)),
             notes: Notes {
-                is_noted: Table::filled(alloc, count.wrapping_mul(2), false, true)?,
+                is_noted: Table::new(alloc, true),
                 todo: Vec::new(alloc),
             },
             queue: 0,
         };
-        for resource in resources {
-            table.take_users(*resource)?;
-        }
+        table.make_places(resources)?;
         Ok(table)
+    }
+
+    /// Makes a place for each activity and each resource, and takes the users of those that it is for.
+    fn make_places(&mut self, resources: &[u32]) -> Result<()> {
+        let count = self.instance.count() as usize;
+        let kinds = self.instance.capacities.items.len();
+        self.durations.fill(count, 0)?;
+        self.greatest_demands.fill(kinds, 0)?;
+        self.rooms.fill(kinds, 0)?;
+        self.parts.fill(count, NO_PART)?;
+        self.notes.is_noted.fill(count.wrapping_mul(2), false)?;
+        for resource in resources {
+            self.take_users(*resource)?;
+        }
+        Ok(())
     }
 
     /// Takes the users of a resource.
