@@ -1,13 +1,10 @@
 //! Analysis of a conflict: back over the trail to the first unique implication point (Marques-Silva and Sakallah 1999),
 //! with literals as weak as they may be. Literals of lower levels that follow from the others go.
 
-use crate::marks::NO_VALUE;
 use crate::state::Engine;
 use crate::{Inference, LineReason};
-use instance::{Result, narrow};
+use instance::Result;
 use propagation::{Conflict, Literal, Reason};
-use std::cmp::Reverse;
-use std::mem;
 
 /// What an analysis found, beside the lemma.
 #[derive(Clone, Copy)]
@@ -29,8 +26,8 @@ const DEPTH: usize = 60;
 /// A value of an event that is looked at: whether all that it follows from is in the nogood.
 #[derive(Clone, Copy)]
 pub(crate) struct Frame {
-    event: u32,
-    link: Inference,
+    pub(crate) event: u32,
+    pub(crate) link: Inference,
     /// Its literals are the last ones found, from here on; those from `next` on are still to be looked at.
     from: u32,
     next: u32,
@@ -48,9 +45,7 @@ impl Engine<'_> {
     pub(crate) fn analyse(&mut self, conflict: Conflict) -> Result<Option<Learnt>> {
         self.marks.begin(self.trail.count())?;
         let end = self.explain_conflict(conflict)?;
-        let found = self.marks.found.items.iter();
-        let levels = found.map(|literal| self.trail.level_of(*literal));
-        let top = levels.max().unwrap_or(0);
+        let top = self.top_level();
         if top <= self.floor {
             if top == 0 {
                 self.log.end(end)?;
@@ -61,6 +56,11 @@ impl Engine<'_> {
         let point = self.resolve(top)?;
         let first = self.minimise(point, top)?;
         self.marks.end(end)?;
+        Ok(Some(self.make_lemma(first)?))
+    }
+
+    /// Makes the lemma of the nogood and this literal, and tells it to the log.
+    fn make_lemma(&mut self, first: Literal) -> Result<Learnt> {
         let (mut level, lbd) = self.put_in_order(first)?;
         let mut number = 0;
         if self.marks.nogood.len() > LONGEST {
@@ -76,7 +76,16 @@ impl Engine<'_> {
         }
         self.choices.age();
         self.lemmas.age();
-        Ok(Some(Learnt { level, lbd, number }))
+        Ok(Learnt { level, lbd, number })
+    }
+
+    /// The last level of the literals that were found.
+    fn top_level(&self) -> u32 {
+        let mut top = 0;
+        for literal in &self.marks.found.items {
+            top = top.max(self.trail.level_of(*literal));
+        }
+        top
     }
 
     /// The literals that were found are needed. Gives how many events of the last level are so for the first time.
@@ -121,19 +130,10 @@ impl Engine<'_> {
         Ok(0)
     }
 
-    /// Events of the last level that were replaced are no longer needed.
-    fn forget_replaced(&mut self, top: u32) {
-        for event in &self.marks.needed.items {
-            if self.trail.event(*event).level == top {
-                self.marks.need[*event] = NO_VALUE;
-            }
-        }
-    }
-
     /// The nogood: of lower levels what does not follow from the rest. Gives the literal of the unique point.
     fn minimise(&mut self, point: u32, top: u32) -> Result<Literal> {
         let first = self.needed(point);
-        self.forget_replaced(top);
+        self.marks.forget_replaced(&self.trail, top);
         for at in 0..self.marks.lower.count() {
             let event = self.marks.lower[at];
             let literal = self.needed(event);
@@ -164,89 +164,103 @@ impl Engine<'_> {
         if self.trail.event(event).reason == Reason::Decision {
             return Ok(false);
         }
-        let mut frames = mem::replace(&mut self.marks.frames, Vec::new(self.instance.alloc));
-        frames.clear();
         let first = self.frame(event, value)?;
-        frames.push(first)?;
-        let is_redundant = self.all_follow(&mut frames)?;
+        self.marks.frames.clear();
+        self.marks.frames.push(first)?;
+        let is_redundant = self.all_follow()?;
         self.marks.found.items.clear();
-        self.marks.frames = frames;
         Ok(is_redundant)
     }
 
+    /// All that the last frame's value follows from is in the nogood.
+    fn end_frame(&mut self, frame: Frame) -> Result<()> {
+        self.marks.found.truncate(frame.from);
+        self.marks.note_gone(frame.event, frame.link.literal.value)?;
+        self.marks.replace(frame.event, frame.link)?;
+        self.marks.frames.pop();
+        Ok(())
+    }
+
     /// Whether all that frames have still to look at follows from the nogood.
-    fn all_follow(&mut self, frames: &mut Vec<Frame>) -> Result<bool> {
+    fn all_follow(&mut self) -> Result<bool> {
         for _ in 0..u64::MAX {
-            let Some(frame) = frames.last().copied() else {
+            let Some(frame) = self.marks.frames.last_mut() else {
                 break;
             };
-            if frame.next >= self.marks.found.count() {
-                self.marks.found.truncate(frame.from);
-                self.marks
-                    .note(frame.event, frame.link.literal.value, true)?;
-                self.marks.replace(frame.event, frame.link)?;
-                frames.pop();
+            let at = frame.next;
+            if at >= self.marks.found.count() {
+                let frame = *frame;
+                self.end_frame(frame)?;
                 continue;
             }
-            let literal = self.marks.found[frame.next];
-            if let Some(last) = frames.last_mut() {
-                last.next = frame.next.wrapping_add(1);
-            }
+            frame.next = at.wrapping_add(1);
+            let literal = self.marks.found[at];
             let cause = self.trail.event_of(literal);
             if self.trail.event(cause).level == 0 || self.marks.has(cause, literal.value) {
                 continue;
             }
-            let is_decision = self.trail.event(cause).reason == Reason::Decision;
-            if is_decision || frames.len() >= DEPTH || self.marks.is_hard(cause, literal.value) {
-                self.note_hard(frames)?;
+            if self.is_needed_itself(cause, literal) {
+                self.marks.note_hard()?;
                 return Ok(false);
             }
             let next = self.frame(cause, literal.value)?;
-            frames.push(next)?;
+            self.marks.frames.push(next)?;
         }
         Ok(true)
     }
 
-    /// None of these values follows from the nogood.
-    fn note_hard(&mut self, frames: &[Frame]) -> Result<()> {
-        for frame in frames {
-            self.marks
-                .note(frame.event, frame.link.literal.value, false)?;
-        }
-        Ok(())
-    }
-
-    /// Of each slot the greatest value says all; the first literal's is the greatest of its slot.
-    pub(crate) fn keep_greatest(&mut self, first: Literal) {
-        let nogood = &mut self.marks.nogood;
-        nogood.retain(|literal: &Literal| literal.slot != first.slot);
-        nogood.sort_unstable_by_key(|literal: &Literal| Reverse(*literal));
-        nogood.dedup_by_key(|literal: &mut Literal| literal.slot);
+    /// Whether nothing else can stand for a literal of an event: it is a decision, deep, or known to be needed.
+    fn is_needed_itself(&self, event: u32, literal: Literal) -> bool {
+        self.trail.event(event).reason == Reason::Decision
+            || self.marks.frames.len() >= DEPTH
+            || self.marks.is_hard(event, literal.value)
     }
 
     /// Puts the first literal before the nogood, and one of the last level of the others second. Gives this level, and how
     /// many levels there are; each of several first decisions counts, and all of a path as one.
     fn put_in_order(&mut self, first: Literal) -> Result<(u32, u32)> {
-        self.keep_greatest(first);
-        let literals = self.marks.nogood.iter();
-        let levels = literals.map(|literal| self.trail.level_of(*literal));
-        let mut levels: Vec<u32> = levels.collect(self.instance.alloc)?;
-        let level = levels.iter().copied().max().unwrap_or(0);
-        let second = levels.iter().position(|here| *here == level).unwrap_or(0);
-        self.marks.nogood.insert(0, first)?;
-        if second + 1 < self.marks.nogood.len() {
-            self.marks.nogood.swap(1, second + 1);
+        self.marks.keep_greatest(first);
+        let levels = self.levels()?;
+        let (mut level, mut second) = (0, 0);
+        for (place, here) in levels.iter().enumerate() {
+            if *here > level {
+                (level, second) = (*here, place);
+            }
         }
-        let floor = self.floor;
-        let mut firsts = levels.iter().filter(|here| **here <= floor).count();
+        let lbd = self.count_levels(levels);
+        if second < self.marks.nogood.len() {
+            self.marks.nogood.swap(0, second);
+        }
+        self.marks.nogood.insert(0, first)?;
+        Ok((level, lbd))
+    }
+
+    /// The levels of the literals of the nogood.
+    fn levels(&self) -> Result<Vec<u32>> {
+        let count = self.marks.nogood.len();
+        let mut levels = Vec::with_capacity(self.instance.alloc, count)?;
+        for literal in &self.marks.nogood {
+            levels.push(self.trail.level_of(*literal))?;
+        }
+        Ok(levels)
+    }
+
+    /// How many levels these are, with the last.
+    fn count_levels(&self, mut levels: Vec<u32>) -> u32 {
+        levels.sort_unstable();
+        let (mut firsts, mut others, mut last) = (0u32, 1u32, self.floor);
+        for level in &levels {
+            if *level <= self.floor {
+                firsts = firsts.wrapping_add(1);
+            } else if *level != last {
+                others = others.wrapping_add(1);
+                last = *level;
+            }
+        }
         if self.has_path {
             firsts = firsts.min(1);
         }
-        levels.retain(|here: &u32| *here > floor);
-        levels.sort_unstable();
-        levels.dedup();
-        let lbd = firsts.wrapping_add(levels.len()).wrapping_add(1);
-        Ok((level, narrow(lbd)))
+        firsts.wrapping_add(others)
     }
 
     /// Tells the log what the root has got since.

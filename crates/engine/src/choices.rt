@@ -50,6 +50,11 @@ fn lot(literal: Literal, seed: u64) -> i32 {
     (hash.wrapping_mul(seed) & 0xffff) as i32
 }
 
+/// The start of an activity; 0 where it has none.
+fn start_of(starts: &[i32], activity: u32) -> i32 {
+    starts.get(activity as usize).copied().unwrap_or(0)
+}
+
 impl Choices {
     /// Nothing has a weight.
     pub(crate) fn new(
@@ -91,8 +96,13 @@ impl Choices {
         let heap = mem::replace(&mut self.heap, Heap::new(self.alloc));
         self.numbers.clear();
         self.taken.items.clear();
+        self.keep(&literals.items, &heap.weights.items)
+    }
+
+    /// Of these literals those whose weight has not faded get it again.
+    fn keep(&mut self, literals: &[Literal], weights: &[f64]) -> Result<()> {
         let least = self.bump * FADED;
-        for (literal, weight) in literals.items.iter().zip(&heap.weights.items) {
+        for (literal, weight) in literals.iter().zip(weights) {
             if *weight > least {
                 self.add(*literal, *weight)?;
             }
@@ -124,9 +134,7 @@ impl Choices {
     pub(crate) fn age(&mut self) {
         self.bump = self.bump / DECAY;
         if self.bump > MOST {
-            for weight in &mut self.heap.weights.items {
-                *weight = *weight / MOST;
-            }
+            self.heap.scale_down(MOST);
             self.bump = self.bump / MOST;
         }
     }
@@ -180,12 +188,12 @@ impl Choices {
 
     /// The open literal of greatest weight, as its variable's saved value says.
     fn heaviest(&mut self, trail: &Trail) -> Result<Option<Literal>> {
-        let number = self.take_open(trail)?;
-        Ok(number.map(|number| {
-            let literal = self.literals[number];
-            let is_saved = self.saved[literal.variable()] >= literal.value;
-            if is_saved { literal } else { !literal }
-        }))
+        let Some(number) = self.take_open(trail)? else {
+            return Ok(None);
+        };
+        let literal = self.literals[number];
+        let is_saved = self.saved[literal.variable()] >= literal.value;
+        Ok(Some(if is_saved { literal } else { !literal }))
     }
 
     /// The open literals of greatest weight with that weight, so many at most, at a level of their own. If none has a weight,
@@ -204,8 +212,9 @@ impl Choices {
             open.push((self.heap.weights[number], self.literals[number]))?;
         }
         if open.is_empty() {
-            let next = self.next_start(trail, edges);
-            open.extend(next.map(|literal| (1.0, literal)))?;
+            if let Some(next) = self.next_start(trail, edges) {
+                open.push((1.0, next))?;
+            }
         }
         Ok(open)
     }
@@ -213,42 +222,66 @@ impl Choices {
     /// The literal to try next, at a level that begins with it; none where all is settled.
     pub(crate) fn next(&mut self, trail: &Trail, edges: &Edges) -> Result<Option<Literal>> {
         self.begin_level()?;
-        let heaviest = self.heaviest(trail)?;
-        let found = heaviest.or_else(|| self.next_start(trail, edges));
+        let mut found = self.heaviest(trail)?;
+        if found.is_none() {
+            found = self.next_start(trail, edges);
+        }
         if found.is_none() {
             self.levels.items.pop();
         }
         Ok(found)
     }
 
+    /// The next open activity of the sequence; where orders decide all, the one that can be earliest.
+    fn next_open(&self, trail: &Trail) -> Option<u32> {
+        let (mut next, mut earliest) = (None, (i32::MAX, i32::MAX));
+        for activity in &self.sequence {
+            let window = (trail.least(*activity), trail.greatest(*activity));
+            if window.0 < window.1 && window < earliest {
+                (next, earliest) = (Some(*activity), window);
+                if !self.only_orders {
+                    break;
+                }
+            }
+        }
+        next
+    }
+
+    /// An activity comes before its earliest rival, of those whose order is open.
+    fn before_rival(&self, trail: &Trail, edges: &Edges, activity: u32) -> Option<Literal> {
+        let (mut found, mut earliest) = (None, i32::MAX);
+        for other in 0..narrow(self.sequence.len()) {
+            let before = edges.precedence(activity, other).unwrap_or(NEVER);
+            if trail.is_open(before) && trail.least(other) < earliest {
+                (found, earliest) = (Some(before), trail.least(other));
+            }
+        }
+        found
+    }
+
     /// The next open activity of the sequence starts as early as it can. Where orders decide all, the one that can be
     /// earliest comes before its earliest rival.
     fn next_start(&self, trail: &Trail, edges: &Edges) -> Option<Literal> {
-        let (least, greatest) = (|of: u32| trail.least(of), |of: u32| trail.greatest(of));
-        let starts = self.sequence.iter().copied();
-        let mut open = starts.filter(|activity: &u32| least(*activity) < greatest(*activity));
-        if !self.only_orders {
-            let activity = open.next()?;
-            return Some(Literal::at_most(activity, least(activity)));
+        let activity = self.next_open(trail)?;
+        if self.only_orders {
+            let before = self.before_rival(trail, edges, activity);
+            if before.is_some() {
+                return before;
+            }
         }
-        let activity = open.min_by_key(|activity: &u32| (least(*activity), greatest(*activity)))?;
-        let before = |other: u32| edges.precedence(activity, other).unwrap_or(NEVER);
-        let rivals = (0..narrow(self.sequence.len())).filter(|other| trail.is_open(before(*other)));
-        let rival = rivals.min_by_key(|other| least(*other));
-        Some(rival.map_or(Literal::at_most(activity, least(activity)), before))
+        Some(Literal::at_most(activity, trail.least(activity)))
     }
 
     /// The values of a schedule are tried first. Where nothing has a weight, activities are started in its order.
     pub(crate) fn prefer(&mut self, instance: &Instance, starts: &[i32], pairs: &[Rivals]) {
-        let start = |activity: u32| starts.get(activity as usize).copied().unwrap_or(0);
         for activity in 0..instance.count() {
-            self.saved[activity] = start(activity);
+            self.saved[activity] = start_of(starts, activity);
         }
         for (variable, pair) in (instance.count()..u32::MAX).zip(pairs) {
-            let end = start(pair.first).wrapping_add(instance.durations[pair.first]);
-            self.saved[variable] = i32::from(start(pair.second) >= end);
+            let end = start_of(starts, pair.first).wrapping_add(instance.durations[pair.first]);
+            self.saved[variable] = i32::from(start_of(starts, pair.second) >= end);
         }
-        let key = |activity: &u32| (start(*activity), *activity);
+        let key = |activity: &u32| (start_of(starts, *activity), *activity);
         self.sequence.sort_unstable_by_key(key);
     }
 }

@@ -16,11 +16,6 @@ impl Engine<'_> {
         ]
     }
 
-    /// Both literals are found.
-    fn find(&mut self, literals: [Literal; 2]) -> Result<()> {
-        self.marks.found.items.extend_from_slice(&literals)
-    }
-
     /// An activity is among the causes, with an amount, if its literals held before `now`. Gives the amount.
     fn note_cause(
         &mut self,
@@ -63,9 +58,7 @@ impl Engine<'_> {
 
     /// The literals of a lemma from one on are false.
     fn explain_lemma(&mut self, place: u32, first: usize) -> Result<LineReason> {
-        for literal in self.lemmas.literals(place).iter().skip(first) {
-            self.marks.found.push(!*literal)?;
-        }
+        self.marks.find_false(self.lemmas.literals(place), first)?;
         let lemma = self.lemmas.number(place);
         Ok(LineReason::Use { lemma })
     }
@@ -89,7 +82,8 @@ impl Engine<'_> {
             Reason::Order { order } => {
                 let order = self.edges.orders.values[order];
                 let value = literal.value.wrapping_sub(order.arc.weight);
-                self.find([order.literal, Literal::new(order.arc.from, value)])?;
+                self.marks
+                    .find([order.literal, Literal::new(order.arc.from, value)])?;
                 Ok(LineReason::Arcs)
             }
             Reason::Lost { order } => self.explain_lost(order, now),
@@ -104,8 +98,27 @@ impl Engine<'_> {
         let slot = arc.to ^ 1;
         let passed = self.trail.value_at(slot, now);
         let value = 1i32.wrapping_sub(arc.weight).wrapping_sub(passed);
-        self.find([Literal::new(slot, passed), Literal::new(arc.from, value)])?;
+        self.marks.find([Literal::new(slot, passed), Literal::new(arc.from, value)])?;
         Ok(LineReason::Force)
+    }
+
+    /// Lists users of a resource that ran at a time for sure, as of an event, but the activity of a literal. Gives what they
+    /// need.
+    fn list_running(&mut self, own: Literal, resource: u32, time: i32, now: u32) -> Result<i32> {
+        let mut sum = 0i32;
+        self.marks.causes.items.clear();
+        let running = &mut self.marks.activities.items;
+        self.table.profile.list_running(time, running)?;
+        for at in 0..self.marks.activities.count() {
+            let activity = self.marks.activities[at];
+            let demand = self.instance.demand(activity, resource);
+            if demand > 0 && own.variable() != activity {
+                let literals = self.inside(activity, 1, time, time.wrapping_add(1));
+                let less = self.note_cause(activity, demand.wrapping_neg(), literals, now)?;
+                sum = sum.wrapping_sub(less);
+            }
+        }
+        Ok(sum)
     }
 
     /// Users of a resource that ran at a time for sure, as of an event, leave no room for the activity of a literal, which
@@ -117,51 +130,23 @@ impl Engine<'_> {
         time: i32,
         now: u32,
     ) -> Result<LineReason> {
-        let (mut sum, from, to) = (0i32, time, time.wrapping_add(1));
+        let (from, to) = (time, time.wrapping_add(1));
         if own != NEVER {
             let [least, greatest] = self.inside(own.variable(), 1, from, to);
             self.marks
                 .found
                 .push(if own.is_lower() { least } else { greatest })?;
         }
-        self.marks.causes.items.clear();
-        let running = &mut self.marks.activities.items;
-        self.table.profile.list_running(time, running)?;
-        for at in 0..self.marks.activities.count() {
-            let activity = self.marks.activities[at];
-            let demand = self.instance.demand(activity, resource);
-            if demand > 0 && own.variable() != activity {
-                let literals = self.inside(activity, 1, from, to);
-                let less = self.note_cause(activity, demand.wrapping_neg(), literals, now)?;
-                sum = sum.wrapping_sub(less);
-            }
-        }
+        let sum = self.list_running(own, resource, time, now)?;
         let demand = self.instance.demand(own.variable(), resource);
         let room = self.instance.capacities[resource].wrapping_sub(demand);
-        self.keep_enough(sum, room)?;
+        self.marks.keep_enough(sum, room)?;
         for at in 0..self.marks.activities.count() {
             let activity = self.marks.activities[at];
             let literals = self.inside(activity, 1, from, to);
-            self.find(literals)?;
+            self.marks.find(literals)?;
         }
         Ok(LineReason::Load { resource, from, to })
-    }
-
-    /// Of the causes those that are needed, the last ones first: they go while the rest is more than there is room for.
-    /// Gives how much more the rest is than it need be.
-    fn keep_enough(&mut self, all: i32, room: i32) -> Result<i32> {
-        let mut sum = all;
-        self.marks.causes.items.sort_unstable();
-        self.marks.activities.items.clear();
-        for (_, amount, activity) in self.marks.causes.items.iter().rev() {
-            let rest = sum.wrapping_sub(amount.wrapping_abs());
-            if rest > room {
-                sum = rest;
-            } else {
-                self.marks.activities.push(*activity)?;
-            }
-        }
-        Ok(sum.wrapping_sub(room).wrapping_sub(1))
     }
 
     /// Lists the parts of activities from one time to another. Gives what they need beyond what there is.
@@ -197,7 +182,7 @@ impl Engine<'_> {
             spare = spare.wrapping_sub(i64::from(less).wrapping_mul(demand));
             if less < part {
                 let literals = self.inside(activity, part.wrapping_sub(less), from, to);
-                self.find(literals)?;
+                self.marks.find(literals)?;
             }
         }
         Ok(LineReason::Load { resource, from, to })
@@ -248,20 +233,27 @@ impl Engine<'_> {
         let is_lower = pushed.is_lower();
         let (from, to) = if is_lower { (at, bound) } else { (end, at) };
         let room = to.wrapping_sub(from).max(0);
-        let length = room.wrapping_add(self.keep_enough(sum, room)?);
+        let length = room.wrapping_add(self.marks.keep_enough(sum, room)?);
         let (from, to) = match is_lower {
             true => (bound.wrapping_sub(length).max(0), bound),
             false => (end, end.wrapping_add(length)),
         };
+        self.find_pushing(pushed, if is_lower { from } else { to })?;
+        self.clique_reason(from, to)
+    }
+
+    /// Finds the literals by which the members that are needed push the activity of a literal.
+    fn find_pushing(&mut self, pushed: Literal, time: i32) -> Result<()> {
         self.marks.activities.items.sort_unstable();
-        for place in 0..self.marks.activities.count() {
-            let time = if is_lower { from } else { to };
-            let other = self.marks.activities[place];
+        for at in 0..self.marks.activities.count() {
+            let other = self.marks.activities[at];
             let (order, bound) = self.pushes(other, pushed, time);
-            self.marks.found.items.extend(order)?;
+            if let Some(order) = order {
+                self.marks.found.push(order)?;
+            }
             self.marks.found.push(bound)?;
         }
-        self.clique_reason(from, to)
+        Ok(())
     }
 
     /// The reason of a record's line, by the members that are needed. One alone pushes by its arc.
@@ -280,9 +272,9 @@ impl Engine<'_> {
         for at in self.cliques.members.numbers(clique) {
             let activity = self.cliques.members.values[at];
             let duration = self.instance.durations[activity];
-            let literals = self.inside(activity, duration, from, to);
-            if literals.iter().all(|literal| self.trail.holds(*literal)) {
-                let added = self.note_cause(activity, duration, literals, u32::MAX)?;
+            let [least, greatest] = self.inside(activity, duration, from, to);
+            if self.trail.holds(least) && self.trail.holds(greatest) {
+                let added = self.note_cause(activity, duration, [least, greatest], u32::MAX)?;
                 sum = sum.wrapping_add(added);
             }
         }
@@ -292,14 +284,14 @@ impl Engine<'_> {
     /// Members of a clique that have to run from one time to another, and need more time.
     fn explain_clique(&mut self, clique: u32, from: i32, to: i32) -> Result<LineReason> {
         let sum = self.list_inside(clique, from, to)?;
-        let spare = self.keep_enough(sum, to.wrapping_sub(from))?;
+        let spare = self.marks.keep_enough(sum, to.wrapping_sub(from))?;
         let from = from.wrapping_sub(spare).max(0);
         self.marks.activities.items.sort_unstable();
         for at in 0..self.marks.activities.count() {
             let activity = self.marks.activities[at];
             let duration = self.instance.durations[activity];
             let literals = self.inside(activity, duration, from, to);
-            self.find(literals)?;
+            self.marks.find(literals)?;
         }
         self.clique_reason(from, to)
     }

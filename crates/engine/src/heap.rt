@@ -50,6 +50,13 @@ impl Heap {
         }
     }
 
+    /// All weights fall: each is divided by this.
+    pub(crate) fn scale_down(&mut self, by: f64) {
+        for weight in &mut self.weights.items {
+            *weight = *weight / by;
+        }
+    }
+
     /// Takes the heaviest number out of the heap.
     pub(crate) fn take_top(&mut self) -> Option<u32> {
         let last = self.heap.items.pop()?;
@@ -66,6 +73,11 @@ impl Heap {
     fn put(&mut self, at: u32, number: u32) {
         self.heap[at] = number;
         self.places[number] = at;
+    }
+
+    /// The weight of the number at a place of the heap.
+    fn weight_at(&self, at: u32) -> f64 {
+        self.weights[self.heap[at]]
     }
 
     /// A number moves up from a place to where none above has a lesser weight.
@@ -89,11 +101,10 @@ impl Heap {
         for _ in 0..32 {
             let mut below = at.wrapping_mul(2).wrapping_add(1);
             let other = below.wrapping_add(1);
-            let weight_of = |at: u32| self.weights[self.heap[at]];
-            if other < self.heap.count() && weight_of(other) > weight_of(below) {
+            if other < self.heap.count() && self.weight_at(other) > self.weight_at(below) {
                 below = other;
             }
-            if below >= self.heap.count() || weight_of(below) <= weight {
+            if below >= self.heap.count() || self.weight_at(below) <= weight {
                 break;
             }
             let other = self.heap[below];

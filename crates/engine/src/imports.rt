@@ -34,11 +34,21 @@ impl Engine<'_> {
         }
     }
 
+    /// The literals of arcs, but those that always hold.
+    fn literals_of(&self, arcs: &[Lag]) -> Result<Vec<Literal>> {
+        let mut literals = Vec::new(self.instance.alloc);
+        for arc in arcs {
+            if let Some(literal) = self.literal_of(*arc) {
+                literals.push(literal)?;
+            }
+        }
+        Ok(literals)
+    }
+
     /// Takes a lemma of another search, which has this number and is of so many levels: not all of these arcs hold. It is
     /// looked at when the search is at the root next.
     pub fn import(&mut self, number: u32, lbd: u32, arcs: &[Lag]) -> Result<()> {
-        let literals = arcs.iter().filter_map(|arc| self.literal_of(*arc));
-        let nogood = literals.collect(self.instance.alloc)?;
+        let nogood = self.literals_of(arcs)?;
         self.log.import(number)?;
         self.imports.push(Import::Lemma {
             number,
@@ -62,10 +72,11 @@ impl Engine<'_> {
 
     /// Takes an arc that always holds, as another search has proved. It is looked at when the search is at the root next.
     pub fn hold(&mut self, arc: Lag) -> Result<()> {
-        let literal = self
-            .literal_of(arc)
-            .filter(|literal: &Literal| *literal != NEVER);
-        self.imports.extend(literal.map(Import::Root))
+        match self.literal_of(arc) {
+            None | Some(NEVER) => {}
+            Some(literal) => self.imports.push(Import::Root(literal))?,
+        }
+        Ok(())
     }
 
     /// Whether imports have waited for long.
@@ -74,21 +85,52 @@ impl Engine<'_> {
         !self.imports.is_empty() && self.counts.conflicts >= late
     }
 
+    /// The negations of the literals of a nogood that don't hold yet, at the root. None where one fails.
+    fn open_of(&self, nogood: &[Literal]) -> Result<Option<Vec<Literal>>> {
+        let mut open = Vec::new(self.instance.alloc);
+        for literal in nogood {
+            if self.trail.fails(*literal) {
+                return Ok(None);
+            }
+            if !self.trail.holds(*literal) {
+                open.push(!*literal)?;
+            }
+        }
+        Ok(Some(open))
+    }
+
+    /// Learns what is left of a lemma of another search. Gives its place.
+    fn learn_open(&mut self, mut open: Vec<Literal>, lbd: u32, number: u32) -> Result<u32> {
+        for _ in open.len()..2 {
+            open.push(NEVER)?;
+        }
+        self.lemmas.learn(&open, lbd, number)
+    }
+
     /// Looks at a lemma of another search, at the root. Of what is left of it one literal follows, and none is a conflict.
     fn admit(&mut self, number: u32, lbd: u32, nogood: &[Literal]) -> Result<(), Stop> {
-        if nogood.iter().any(|literal| self.trail.fails(*literal)) {
+        let Some(open) = self.open_of(nogood)? else {
             self.log.forget(number)?;
             return Ok(());
-        }
-        let open = nogood.iter().filter(|literal| !self.trail.holds(**literal));
-        let mut open: Vec<Literal> = open.map(|literal| !*literal).collect(self.instance.alloc)?;
+        };
         let (count, first) = (open.len(), open.first().copied().unwrap_or(NEVER));
-        open.extend((count..2).map(|_| NEVER))?;
-        let place = self.lemmas.learn(&open, lbd, number)?;
+        let place = self.learn_open(open, lbd, number)?;
         match count {
             0 => Err(Stop::Conflict(Conflict::Lemma { place })),
             1 => self.trail.force(first, Reason::Lemma { place }),
             _ => Ok(()),
+        }
+    }
+
+    /// Looks at an import, at the root.
+    fn admit_one(&mut self, import: &Import) -> Result<(), Stop> {
+        match import {
+            Import::Root(literal) => self.trail.force(*literal, Reason::Given),
+            Import::Lemma {
+                number,
+                lbd,
+                nogood,
+            } => self.admit(*number, *lbd, nogood),
         }
     }
 
@@ -98,14 +140,7 @@ impl Engine<'_> {
         self.reduction = self.reduction.saturating_sub(imports.len() as u64 / 2);
         self.looked = self.counts.conflicts;
         for import in &imports {
-            match import {
-                Import::Root(literal) => self.trail.force(*literal, Reason::Given)?,
-                Import::Lemma {
-                    number,
-                    lbd,
-                    nogood,
-                } => self.admit(*number, *lbd, nogood)?,
-            }
+            self.admit_one(import)?;
         }
         Ok(())
     }

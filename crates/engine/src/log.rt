@@ -161,25 +161,39 @@ impl<'a> Log<'a> {
     fn put(&self, lines: &mut Vec<Line>, reason: LineReason, edge: Option<Edge>) -> Result<()> {
         let over = match reason {
             LineReason::Arcs => return Ok(()),
-            LineReason::Force => return lines.extend(edge.map(force)),
-            LineReason::Use { lemma } => return lines.extend(Some(Line::Use(lemma as usize))),
+            LineReason::Force => {
+                if let Some(edge) = edge {
+                    lines.push(force(edge))?;
+                }
+                return Ok(());
+            }
+            LineReason::Use { lemma } => {
+                lines.push(Line::Use(lemma as usize))?;
+                return Ok(());
+            }
             LineReason::Load { resource, from, to } => WindowOverload::Load {
                 resource: resource as usize,
                 from: i64::from(from),
                 to: i64::from(to),
             },
-            LineReason::Clique { members, from, to } => {
-                let members = self.sets.row(members).iter().map(|member| *member as usize);
-                WindowOverload::Clique {
-                    from: i64::from(from),
-                    to: i64::from(to),
-                    members: Members::new(members.collect(self.instance.alloc)?),
-                }
-            }
+            LineReason::Clique { members, from, to } => WindowOverload::Clique {
+                from: i64::from(from),
+                to: i64::from(to),
+                members: self.members(members)?,
+            },
         };
         let arc = edge.map(lag);
         lines.push(Line::Push { arc, over })?;
         Ok(())
+    }
+
+    /// The members of a set of a clique.
+    fn members(&self, set: u32) -> Result<Members> {
+        let mut members = Vec::new(self.instance.alloc);
+        for member in self.sets.row(set) {
+            members.push(*member as usize)?;
+        }
+        Ok(Members::new(members))
     }
 
     /// Tells a lemma with its lines.
@@ -195,13 +209,15 @@ impl<'a> Log<'a> {
 
     /// A lemma of one arc, which always holds, or of none.
     fn tell_root(&mut self, reason: LineReason, edge: Option<Edge>) -> Result<()> {
-        let (mut arcs, mut lines) = (Vec::new(self.instance.alloc), Vec::new(self.instance.alloc));
-        arcs.extend(edge.map(|edge| reverse(lag(edge))))?;
-        self.put(&mut lines, reason, edge)?;
-        match self.is_kept {
-            true => self.tell(0, 0, arcs, lines),
-            false => Ok(()),
+        if !self.is_kept {
+            return Ok(());
         }
+        let (mut arcs, mut lines) = (Vec::new(self.instance.alloc), Vec::new(self.instance.alloc));
+        if let Some(edge) = edge {
+            arcs.push(reverse(lag(edge)))?;
+        }
+        self.put(&mut lines, reason, edge)?;
+        self.tell(0, 0, arcs, lines)
     }
 
     /// The order of an edge always holds, as the other order does not fit.
@@ -248,9 +264,25 @@ impl<'a> Log<'a> {
             0 | 1 => 0,
             _ => self.number()?,
         };
-        let (mut arcs, mut lines) = (Vec::new(self.instance.alloc), Vec::new(self.instance.alloc));
+        let arcs = self.supposed_all(nogood)?;
+        let lines = self.lines_of(nogood, links)?;
+        self.tell(number, lbd, arcs, lines)?;
+        Ok(number)
+    }
+
+    /// The arcs of the literals of a lemma.
+    fn supposed_all(&self, nogood: &[Literal]) -> Result<Vec<Lag>> {
+        let mut arcs = Vec::new(self.instance.alloc);
         for literal in nogood {
             arcs.push(self.supposed(*literal))?;
+        }
+        Ok(arcs)
+    }
+
+    /// The lines of a lemma: those of its literals, and then those of what follows from them.
+    fn lines_of(&self, nogood: &[Literal], links: &[(u32, Inference)]) -> Result<Vec<Line>> {
+        let mut lines = Vec::new(self.instance.alloc);
+        for literal in nogood {
             if self.order_of(*literal).is_some() {
                 lines.push(force(self.arc(*literal)))?;
             }
@@ -259,8 +291,7 @@ impl<'a> Log<'a> {
             let edge = (*literal != NEVER).then_some(self.arc(*literal));
             self.put(&mut lines, *reason, edge)?;
         }
-        self.tell(number, lbd, arcs, lines)?;
-        Ok(number)
+        Ok(lines)
     }
 
     /// The lemma of a number, which is another search's, is used from now on.

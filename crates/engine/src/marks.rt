@@ -3,11 +3,12 @@
 use crate::analysis::Frame;
 use crate::{Inference, LineReason};
 use instance::{Result, Table};
-use propagation::{Literal, NEVER};
+use propagation::{Literal, NEVER, Trail};
 use std::alloc::Global;
+use std::cmp::Reverse;
 
 /// No value.
-pub(crate) const NO_VALUE: i32 = i32::MIN;
+const NO_VALUE: i32 = i32::MIN;
 
 /// The notes of an analysis. Values are those of the event's slot.
 #[derive(Drop)]
@@ -114,14 +115,19 @@ impl Marks {
         self.hard[event] <= value
     }
 
-    /// Notes whether the nogood has a value of an event without the literal.
-    pub(crate) fn note(&mut self, event: u32, value: i32, is_gone: bool) -> Result<()> {
-        if is_gone {
-            self.gone[event] = self.gone[event].max(value);
-        } else {
-            self.hard[event] = self.hard[event].min(value);
-        }
+    /// Notes that the nogood has a value of an event without the literal.
+    pub(crate) fn note_gone(&mut self, event: u32, value: i32) -> Result<()> {
+        self.gone[event] = self.gone[event].max(value);
         self.tried.push(event)
+    }
+
+    /// Notes that the nogood needs a literal for the value of each frame.
+    pub(crate) fn note_hard(&mut self) -> Result<()> {
+        for Frame { event, link, .. } in &self.frames {
+            self.hard[*event] = self.hard[*event].min(link.literal.value);
+            self.tried.push(*event)?;
+        }
+        Ok(())
     }
 
     /// A literal of an event was replaced by what it follows from. A record has no line for what arcs say.
@@ -130,5 +136,52 @@ impl Marks {
             self.replaced.push((event, link))?;
         }
         Ok(())
+    }
+
+    /// Both literals are found.
+    pub(crate) fn find(&mut self, literals: [Literal; 2]) -> Result<()> {
+        self.found.items.extend_from_slice(&literals)
+    }
+
+    /// The literals of a lemma from one on are false: their negations are found.
+    pub(crate) fn find_false(&mut self, lemma: &[Literal], first: usize) -> Result<()> {
+        for literal in lemma.iter().skip(first) {
+            self.found.push(!*literal)?;
+        }
+        Ok(())
+    }
+
+    /// Of the causes those that are needed, the last ones first: they go while the rest is more than there is room for.
+    /// Gives how much more the rest is than it need be.
+    pub(crate) fn keep_enough(&mut self, all: i32, room: i32) -> Result<i32> {
+        let mut sum = all;
+        self.causes.items.sort_unstable();
+        self.activities.items.clear();
+        for (_, amount, activity) in self.causes.items.iter().rev() {
+            let rest = sum.wrapping_sub(amount.wrapping_abs());
+            if rest > room {
+                sum = rest;
+            } else {
+                self.activities.push(*activity)?;
+            }
+        }
+        Ok(sum.wrapping_sub(room).wrapping_sub(1))
+    }
+
+    /// Events of the last level that were replaced are no longer needed.
+    pub(crate) fn forget_replaced(&mut self, trail: &Trail, top: u32) {
+        for event in &self.needed.items {
+            if trail.event(*event).level == top {
+                self.need[*event] = NO_VALUE;
+            }
+        }
+    }
+
+    /// Of each slot the greatest value says all; the first literal's is the greatest of its slot.
+    pub(crate) fn keep_greatest(&mut self, first: Literal) {
+        let nogood = &mut self.nogood;
+        nogood.retain(|literal: &Literal| literal.slot != first.slot);
+        nogood.sort_unstable_by_key(|literal: &Literal| Reverse(*literal));
+        nogood.dedup_by_key(|literal: &mut Literal| literal.slot);
     }
 }

@@ -26,9 +26,14 @@ enum Side {
     Other,
 }
 
-/// Whether two literals can't both hold, whatever else does.
-fn contradict(a: Literal, b: Literal) -> bool {
-    a.slot == b.slot ^ 1 && a.value.wrapping_add(b.value) > 0
+/// Whether a literal can't hold together with one of a list, whatever else does.
+fn contradicts(literal: Literal, others: &[Literal]) -> bool {
+    for other in others {
+        if other.slot == literal.slot ^ 1 && other.value.wrapping_add(literal.value) > 0 {
+            return true;
+        }
+    }
+    false
 }
 
 impl Engine<'_> {
@@ -55,18 +60,15 @@ impl Engine<'_> {
         if self.is_refuted {
             return Ok(Path::Refuted);
         }
-        let mut decisions: Vec<Literal> = Vec::new(self.instance.alloc);
+        let mut decisions = Vec::new(self.instance.alloc);
         for (place, arc) in arcs.iter().enumerate() {
             match self.side(*arc) {
                 Side::Holds => {}
                 Side::Other => return Ok(Path::Other(place)),
-                Side::Decision(literal) => {
-                    if decisions.iter().any(|other| contradict(*other, literal)) {
-                        return Ok(Path::Refuted);
-                    }
+                Side::Decision(literal) if !contradicts(literal, &decisions) => {
                     decisions.push(literal)?;
                 }
-                Side::Fails => return Ok(Path::Refuted),
+                Side::Decision(_) | Side::Fails => return Ok(Path::Refuted),
             }
         }
         Ok(Path::Decisions(decisions))
@@ -91,7 +93,7 @@ impl Engine<'_> {
             self.note_found(1)?;
         }
         self.marks.end(reason)?;
-        self.keep_greatest(NEVER);
+        self.marks.keep_greatest(NEVER);
         let (nogood, replaced) = (&self.marks.nogood, &self.marks.replaced);
         self.log.lemma(nogood, narrow(nogood.len()), replaced)?;
         Ok(())

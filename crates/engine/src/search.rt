@@ -87,7 +87,8 @@ impl Engine<'_> {
     /// decisions on one level it may be none.
     pub fn start(&mut self, mut first: Vec<Literal>, most: u64, pace: Pace) -> Result<Subsearch> {
         self.go_back(0)?;
-        first.retain(|literal: &Literal| !self.trail.holds(*literal));
+        let trail = &self.trail;
+        first.retain(|literal: &Literal| !trail.holds(*literal));
         self.floor = u32::from(first.len() > 1);
         self.has_path = false;
         Ok(Subsearch {
@@ -165,8 +166,7 @@ impl Engine<'_> {
         if self.counts.conflicts >= run.last {
             return Ok(SubsearchState::Stopped);
         }
-        let fails = |literal: &Literal| self.trail.fails(*literal);
-        if self.trail.level() == 0 && run.first.iter().any(fails) {
+        if self.trail.level() == 0 && self.some_fail(&run.first) {
             self.log_root()?;
             return Ok(SubsearchState::Refuted);
         }
@@ -221,10 +221,29 @@ impl Engine<'_> {
         Ok(())
     }
 
+    /// Whether all of these literals hold.
+    fn all_hold(&self, literals: &[Literal]) -> bool {
+        for literal in literals {
+            if !self.trail.holds(*literal) {
+                return false;
+            }
+        }
+        true
+    }
+
+    /// Whether one of these literals fails.
+    fn some_fail(&self, literals: &[Literal]) -> bool {
+        for literal in literals {
+            if self.trail.fails(*literal) {
+                return true;
+            }
+        }
+        false
+    }
+
     /// Decides on the first decisions, or the next choice. False where all is settled.
     fn decide_next(&mut self, first: &[Literal]) -> Result<bool> {
-        let holds = |literal: &Literal| self.trail.holds(*literal);
-        if self.trail.level() == 0 && !first.iter().all(holds) {
+        if self.trail.level() == 0 && !self.all_hold(first) {
             self.choices.begin_level()?;
             self.decide(first)?;
             return Ok(true);
@@ -236,15 +255,24 @@ impl Engine<'_> {
         Ok(next.is_some())
     }
 
+    /// The end that the least starts need.
+    fn end_of_least(&self) -> i32 {
+        let (mut latest, end) = (0, self.instance.end());
+        for edge in self.instance.entering.row(end) {
+            if edge.from != end {
+                latest = latest.max(self.trail.least(edge.from).wrapping_add(edge.weight));
+            }
+        }
+        latest
+    }
+
     /// The least starts, and the end that they need.
     pub fn schedule(&self) -> Result<Vec<i32>> {
-        let end = self.instance.end();
-        let before = self.instance.entering.row(end).iter();
-        let starts = (0..end).map(|activity| self.trail.least(activity));
-        let mut starts: Vec<i32> = starts.collect(self.instance.alloc)?;
-        let inner = before.filter(|edge| edge.from != end);
-        let ends = inner.map(|edge| self.trail.least(edge.from).wrapping_add(edge.weight));
-        starts.push(ends.max().unwrap_or(0))?;
+        let mut starts = Vec::new(self.instance.alloc);
+        for activity in 0..self.instance.end() {
+            starts.push(self.trail.least(activity))?;
+        }
+        starts.push(self.end_of_least())?;
         Ok(starts)
     }
 

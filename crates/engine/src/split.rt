@@ -36,9 +36,13 @@ struct Split {
 
 /// The place of the leaf that leaves most.
 fn widest(leaves: &[Leaf]) -> Option<usize> {
-    let places = leaves.iter().enumerate().filter(|(_, leaf)| leaf.left > 0);
-    let widest = places.max_by_key(|(_, leaf)| leaf.left);
-    widest.map(|(place, _)| place)
+    let (mut widest, mut most) = (None, 1);
+    for (place, leaf) in leaves.iter().enumerate() {
+        if leaf.left >= most {
+            (widest, most) = (Some(place), leaf.left);
+        }
+    }
+    widest
 }
 
 /// By how much what is left falls, a little where it does not.
@@ -56,13 +60,13 @@ impl Engine<'_> {
 
     /// What is left to decide: open orders, and the digits of windows of starts.
     fn left(&self) -> u32 {
-        let width = |variable: u32| {
+        let mut sum = 0u32;
+        for variable in 0..self.trail.values().count() / 2 {
             let (least, most) = (self.trail.least(variable), self.trail.greatest(variable));
-            most.saturating_sub(least).max(0).cast_unsigned()
-        };
-        let digits = |variable: u32| 32u32.saturating_sub(width(variable).leading_zeros());
-        let variables = 0..self.trail.values().count() / 2;
-        variables.fold(0u32, |sum, variable| sum.wrapping_add(digits(variable)))
+            let width = most.saturating_sub(least).max(0).cast_unsigned();
+            sum = sum.wrapping_add(32u32.saturating_sub(width.leading_zeros()));
+        }
+        sum
     }
 
     /// What a decision leaves; 0 where it is contradicted.
@@ -125,29 +129,50 @@ impl Engine<'_> {
         Ok(Piece { name, arcs })
     }
 
+    /// Puts the two sides of a leaf at the end of a list, or the leaf, as one with nothing to split by.
+    fn split_leaf(
+        &mut self,
+        path: &[Literal],
+        mut leaf: Leaf,
+        leaves: &mut Vec<Leaf>,
+    ) -> Result<()> {
+        if let Some(split) = self.split_of(path, &leaf)? {
+            leaves.push(self.side_of(&leaf, &split, false)?)?;
+            leaves.push(self.side_of(&leaf, &split, true)?)?;
+        } else {
+            leaf.left = 0;
+            leaves.push(leaf)?;
+        }
+        Ok(())
+    }
+
+    /// Splits leaves until there are so many, each time the one that leaves most. Goes back to the root.
+    fn split_leaves(
+        &mut self,
+        path: &[Literal],
+        leaves: &mut Vec<Leaf>,
+        most: usize,
+    ) -> Result<()> {
+        for _ in 0..most.saturating_mul(2) {
+            let Some(place) = widest(leaves) else {
+                break;
+            };
+            if leaves.len() >= most || place >= leaves.len() {
+                break;
+            }
+            let leaf = leaves.swap_remove(place);
+            self.split_leaf(path, leaf, leaves)?;
+        }
+        self.go_back(0)
+    }
+
     /// Splits what is open under a path into so many pieces at most, each time the one that leaves most. Goes back to the
     /// root.
     pub fn split(&mut self, path: &[Literal], most: usize) -> Result<Vec<Piece>> {
         let mut leaves = Vec::new(self.instance.alloc);
         let (sides, left) = (Vec::new(self.instance.alloc), u32::MAX);
         leaves.push(Leaf { sides, left })?;
-        for _ in 0..most.saturating_mul(2) {
-            let Some(place) = widest(&leaves) else {
-                break;
-            };
-            if leaves.len() >= most || place >= leaves.len() {
-                break;
-            }
-            let mut leaf = leaves.swap_remove(place);
-            if let Some(split) = self.split_of(path, &leaf)? {
-                leaves.push(self.side_of(&leaf, &split, false)?)?;
-                leaves.push(self.side_of(&leaf, &split, true)?)?;
-            } else {
-                leaf.left = 0;
-                leaves.push(leaf)?;
-            }
-        }
-        self.go_back(0)?;
+        self.split_leaves(path, &mut leaves, most)?;
         let mut pieces = Vec::new(self.instance.alloc);
         for leaf in &leaves {
             pieces.push(self.piece_of(leaf)?)?;

@@ -92,8 +92,14 @@ fn first_values(instance: &Instance, settled: &Settled, most: i32) -> Result<Tab
 
 /// Whether some of a list may run at once: lags and open orders don't part them.
 fn may_overlap(instance: &Instance, settled: &Settled, users: &[u32]) -> bool {
-    let overlap = |a: u32, b: u32| a < b && !settled.is_parted(instance, a, b);
-    users.iter().any(|a| users.iter().any(|b| overlap(*a, *b)))
+    for a in users {
+        for b in users {
+            if *a < *b && !settled.is_parted(instance, *a, *b) {
+                return true;
+            }
+        }
+    }
+    false
 }
 
 /// The resources of which some users may run at once.
@@ -108,44 +114,77 @@ fn shared_resources(instance: &Instance, settled: &Settled) -> Result<Vec<u32>> 
     Ok(shared)
 }
 
+/// The cliques of a project that a search looks at.
+fn cliques_of<'a>(
+    instance: &'a Instance,
+    settled: &Settled,
+    edges: &Edges,
+    has_cliques: bool,
+) -> Result<Cliques<'a>> {
+    let found = match has_cliques {
+        true => greedy_cliques(instance, &settled.walks)?,
+        false => Rows::new(instance.alloc, 0),
+    };
+    Cliques::new(instance, edges, &found)
+}
+
+/// The choices of a search that has tried nothing yet.
+fn choices_of(
+    instance: &Instance,
+    settled: &Settled,
+    trail: &Trail,
+    only_orders: bool,
+    seed: u64,
+) -> Result<Choices> {
+    let sequence = start_sequence(instance, &settled.walks)?;
+    Choices::new(instance.alloc, trail, sequence, only_orders, seed)
+}
+
 impl<'a> Engine<'a> {
     /// A search for schedules, over the longest walks. It looks at all that follows at the root.
     pub fn open(instance: &'a Instance, walks: Walks, options: Options) -> Result<Engine<'a>> {
         let settled = settle(instance, walks, options.most)?;
         let mut engine = Engine::new(instance, &settled, options)?;
-        for order in &settled.forced {
-            engine.log.order(*order)?;
-        }
-        if settled.is_infeasible || !engine.has_room() {
-            engine.refute(LineReason::Arcs)?;
-        } else if let Some(conflict) = conflict_of(engine.begin())? {
-            engine.log_root()?;
-            engine.analyse(conflict)?;
-        }
+        engine.look_at_root(&settled)?;
         Ok(engine)
+    }
+
+    /// Tells the log what is settled, and looks at all that follows.
+    fn look_at_root(&mut self, settled: &Settled) -> Result<()> {
+        for order in &settled.forced {
+            self.log.order(*order)?;
+        }
+        if settled.is_infeasible || !self.has_room() {
+            return self.refute(LineReason::Arcs);
+        }
+        if let Some(conflict) = conflict_of(self.begin())? {
+            self.log_root()?;
+            self.analyse(conflict)?;
+        }
+        Ok(())
     }
 
     /// A search under settled orders that has looked at nothing yet.
     fn new(instance: &'a Instance, settled: &Settled, options: Options) -> Result<Engine<'a>> {
         let alloc = instance.alloc;
-        let trail = Trail::new(alloc, first_values(instance, settled, options.most)?)?;
         let resources = shared_resources(instance, settled)?;
+        let trail = Trail::new(alloc, first_values(instance, settled, options.most)?)?;
         let edges = Edges::new(instance, settled)?;
-        let found = match options.has_cliques {
-            true => greedy_cliques(instance, &settled.walks)?,
-            false => Rows::new(alloc, 0),
-        };
-        let sequence = start_sequence(instance, &settled.walks)?;
-        let only_orders = resources.is_empty();
         Ok(Engine {
             instance,
             table: TimeTable::new(instance, &resources)?,
-            cliques: Cliques::new(instance, &edges, &found)?,
+            cliques: cliques_of(instance, settled, &edges, options.has_cliques)?,
             edges,
             lemmas: Lemmas::new(alloc, trail.values().count())?,
             imports: Vec::new(alloc),
             looked: options.done.conflicts,
-            choices: Choices::new(alloc, &trail, sequence, only_orders, options.seed)?,
+            choices: choices_of(
+                instance,
+                settled,
+                &trail,
+                resources.is_empty(),
+                options.seed,
+            )?,
             trail,
             marks: Marks::new(alloc),
             log: Log::new(instance, &settled.open, options.has_log, options.slots)?,
@@ -163,8 +202,12 @@ impl<'a> Engine<'a> {
 
     /// Whether each start has a value that it may have.
     fn has_room(&self) -> bool {
-        let has_room = |activity: u32| self.trail.least(activity) <= self.trail.greatest(activity);
-        (0..self.instance.count()).all(has_room)
+        for activity in 0..self.instance.count() {
+            if self.trail.least(activity) > self.trail.greatest(activity) {
+                return false;
+            }
+        }
+        true
     }
 
     /// Looks at all, at the start.
