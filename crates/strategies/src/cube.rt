@@ -37,6 +37,26 @@ pub enum Cubed<'a> {
     Other(usize),
 }
 
+/// How the search under a path begins.
+#[derive(Drop)]
+enum Begun {
+    /// The decisions of the path, and whether arcs of it contradict each other or what always holds.
+    Under(Vec<Literal>, Subsearch, bool),
+    /// The arc at this place is neither a bound of a start nor an order of rivals.
+    Other(usize),
+}
+
+/// Begins a search under a path.
+fn begin_under(engine: &mut Engine, instance: &Instance, arcs: &[Lag]) -> Result<Begun> {
+    let (path, is_refuted) = match engine.path(arcs)? {
+        Path::Decisions(path) => (path, false),
+        Path::Refuted => (Vec::new(instance.alloc), true),
+        Path::Other(place) => return Ok(Begun::Other(place)),
+    };
+    let run = engine.start_under(path.to_vec(instance.alloc)?, Pace::default())?;
+    Ok(Begun::Under(path, run, is_refuted))
+}
+
 impl<'a> CubeSearch<'a> {
     /// A search for schedules that end before a ceiling and meet a path. It has looked at what always holds.
     pub fn open(
@@ -49,31 +69,43 @@ impl<'a> CubeSearch<'a> {
         if walks.has_loop() || instance.asks_too_much() {
             return Ok(Cubed::Contradiction);
         }
+        let most = match ceiling {
+            Some(ceiling) => ceiling.wrapping_sub(1),
+            None => instance.horizon,
+        };
         let options = Options {
-            most: ceiling.map_or(instance.horizon, |ceiling| ceiling.wrapping_sub(1)),
+            most,
             has_log: true,
             has_cliques: true,
             seed: limits.seed,
             slots: limits.slots,
             done: SearchCounts::default(),
         };
+        CubeSearch::under(instance, walks, options, limits.memory, arcs)
+    }
+
+    /// A search over the longest walks for schedules that meet a path.
+    fn under(
+        instance: &'a Instance,
+        walks: Walks,
+        options: Options,
+        memory: u64,
+        arcs: &[Lag],
+    ) -> Result<Cubed<'a>> {
         let mut engine = Engine::open(instance, walks, options)?;
-        let (path, is_refuted) = match engine.path(arcs)? {
-            Path::Decisions(path) => (path, false),
-            Path::Refuted => (Vec::new(instance.alloc), true),
-            Path::Other(place) => return Ok(Cubed::Other(place)),
-        };
-        let run = engine.start_under(path.to_vec(instance.alloc)?, Pace::default())?;
-        Ok(Cubed::Search(CubeSearch {
-            instance,
-            engine,
-            path,
-            run,
-            best: None,
-            memory: limits.memory,
-            is_refuted,
-            is_full: false,
-        }))
+        Ok(match begin_under(&mut engine, instance, arcs)? {
+            Begun::Other(place) => Cubed::Other(place),
+            Begun::Under(path, run, is_refuted) => Cubed::Search(CubeSearch {
+                instance,
+                engine,
+                path,
+                run,
+                best: None,
+                memory,
+                is_refuted,
+                is_full: false,
+            }),
+        })
     }
 
     /// The values of a schedule are tried first.

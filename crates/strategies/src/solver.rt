@@ -39,18 +39,29 @@ const DIVE: u64 = 5_000;
 /// How often a search forgets lemmas where it has no room, before it stops.
 const REDUCTIONS: u64 = 6;
 
+/// A search for a first schedule: with a few conflicts at the root, below the horizon, or in a dive below a ceiling.
+#[derive(Drop)]
+struct FirstSearch<'a> {
+    engine: Engine<'a>,
+    run: Subsearch,
+    /// The ceiling of a dive, which starts one activity after the other as early as it can.
+    dive: Option<i32>,
+}
+
+impl FirstSearch<'_> {
+    /// Searches for so many steps.
+    fn search(&mut self, steps: u64) -> Result<SubsearchState> {
+        self.engine.search(&mut self.run, steps)
+    }
+}
+
 /// What a search does.
 #[derive(Drop)]
 enum Stage<'a> {
     /// Nothing: the project contradicts itself.
     Contradiction,
-    /// It looks for a first schedule: with a few conflicts at the root, below the horizon, or in a dive below a ceiling.
-    /// A dive starts one activity after the other as early as it can.
-    First {
-        engine: Engine<'a>,
-        run: Subsearch,
-        dive: Option<i32>,
-    },
+    /// It looks for a first schedule.
+    First(FirstSearch<'a>),
     /// Strategies take turns from the next step on, with a first schedule or none.
     Ready(Option<Vec<i32>>),
     Turns(Turns<'a>),
@@ -85,16 +96,21 @@ impl<'a> Solver<'a> {
             done: SearchCounts::default(),
             is_full: false,
         };
-        if let Some(below) = limits.below {
-            solver.begin_below(below)?;
-            return Ok(solver);
-        }
-        let walks = Walks::new(instance)?;
-        if !walks.has_loop() && !instance.asks_too_much() {
-            solver.walks = Some(walks);
-            solver.begin_first(None)?;
-        }
+        solver.begin()?;
         Ok(solver)
+    }
+
+    /// Begins to look for schedules below an end, or for a first one, unless the project contradicts itself.
+    fn begin(&mut self) -> Result<()> {
+        if let Some(below) = self.limits.below {
+            return self.begin_below(below);
+        }
+        let walks = Walks::new(self.instance)?;
+        if !walks.has_loop() && !self.instance.asks_too_much() {
+            self.walks = Some(walks);
+            self.begin_first(None)?;
+        }
+        Ok(())
     }
 
     /// Schedules end before this, whatever is known.
@@ -146,23 +162,40 @@ impl<'a> Solver<'a> {
         let mut engine = self.open(walks, ceiling, dive.is_none(), false)?;
         let most = if dive.is_some() { DIVE } else { ROOT };
         let run = engine.start(Vec::new(self.instance.alloc), most, Pace::default())?;
-        self.stage = Stage::First { engine, run, dive };
+        self.stage = Stage::First(FirstSearch { engine, run, dive });
         Ok(())
     }
 
     /// Strategies begin to take turns, with a first schedule or none.
     fn begin_turns(&mut self, start: Option<Vec<i32>>) -> Result<()> {
-        let end = start.as_ref().and_then(|starts| starts.last().copied());
-        let ceiling = end.unwrap_or(self.last_ceiling());
+        let mut ceiling = self.last_ceiling();
+        if let Some(starts) = &start {
+            ceiling = starts.last().copied().unwrap_or(ceiling);
+        }
         let Some(walks) = self.walks.take() else {
             return Ok(());
         };
-        let engine = self.open(walks, ceiling, true, true)?;
-        let mut turns = Turns::new(self.instance, engine, ceiling, self.limits.seed)?;
-        if let Some(starts) = &start {
+        self.stage = Stage::Turns(self.turns_over(walks, ceiling)?);
+        if let (Some(starts), Stage::Turns(turns)) = (&start, &mut self.stage) {
             turns.take(starts, Finder::Dive)?;
         }
-        self.stage = Stage::Turns(turns);
+        Ok(())
+    }
+
+    /// The turns of strategies below a ceiling, over the longest walks.
+    fn turns_over(&self, walks: Walks, ceiling: i32) -> Result<Turns<'a>> {
+        let engine = self.open(walks, ceiling, true, true)?;
+        Turns::new(self.instance, engine, ceiling, self.limits.seed)
+    }
+
+    /// Strategies begin to take turns with the engine that looked for a first schedule.
+    fn keep_engine(&mut self) -> Result<()> {
+        if let Stage::First(first) = mem::replace(&mut self.stage, Stage::Ready(None)) {
+            let FirstSearch { engine, .. } = first;
+            let ceiling = self.last_ceiling();
+            let turns = Turns::new(self.instance, engine, ceiling, self.limits.seed)?;
+            self.stage = Stage::Turns(turns);
+        }
         Ok(())
     }
 
@@ -173,18 +206,32 @@ impl<'a> Solver<'a> {
         Ok(())
     }
 
-    /// An engine goes, and its lemmas are forgotten.
-    fn retire(&mut self, mut engine: Engine<'a>) -> Result<()> {
-        self.done = engine.counts;
-        engine.log.forget_all()?;
-        let mut events = engine.log.take();
-        self.told.append(&mut events)
+    /// The engine that looked for a first schedule goes, and its lemmas are forgotten.
+    fn retire(&mut self) -> Result<()> {
+        if let Stage::First(first) = &mut self.stage {
+            self.done = first.engine.counts;
+            first.engine.log.forget_all()?;
+            let mut events = first.engine.log.take();
+            self.told.append(&mut events)?;
+            self.stage = Stage::Ready(None);
+        }
+        Ok(())
+    }
+
+    /// The least starts of the engine that looked for a first schedule are one.
+    fn begin_with_least(&mut self) -> Result<()> {
+        let Stage::First(first) = &self.stage else {
+            return Ok(());
+        };
+        let starts = first.engine.schedule()?;
+        self.retire()?;
+        self.begin_with(&starts)
     }
 
     /// The engine at work.
     fn engine_mut(&mut self) -> Option<&mut Engine<'a>> {
         match &mut self.stage {
-            Stage::First { engine, .. } => Some(engine),
+            Stage::First(first) => Some(&mut first.engine),
             Stage::Turns(turns) => Some(&mut turns.engine),
             Stage::Below(search) => Some(&mut search.engine),
             _ => None,
@@ -203,34 +250,39 @@ impl<'a> Solver<'a> {
         }
     }
 
+    /// Schedules of likely makespans end before this.
+    fn likely_ceiling(&self) -> i32 {
+        let mut walk = None;
+        if let Some(walks) = &self.walks {
+            walk = walks.longest(0, self.instance.end());
+        }
+        let likely = self.instance.likely_end(walk.unwrap_or(0));
+        likely.saturating_add(1)
+    }
+
     /// Searches on for a first schedule.
     fn find_first(&mut self, steps: u64) -> Result<()> {
-        let (mut engine, mut run, dive) = match mem::replace(&mut self.stage, Stage::Ready(None)) {
-            Stage::First { engine, run, dive } => (engine, run, dive),
-            Stage::Ready(start) => return self.begin_turns(start),
+        let (found, dive) = match &mut self.stage {
+            Stage::First(first) => (first.search(steps)?, first.dive),
+            Stage::Ready(start) => {
+                let start = start.take();
+                return self.begin_turns(start);
+            }
             _ => return Ok(()),
         };
-        let found = engine.search(&mut run, steps)?;
-        if found == SubsearchState::Open {
-            self.stage = Stage::First { engine, run, dive };
-            return Ok(());
-        }
-        if found == SubsearchState::Refuted && dive.is_none() {
-            let ceiling = self.last_ceiling();
-            let turns = Turns::new(self.instance, engine, ceiling, self.limits.seed)?;
-            self.stage = Stage::Turns(turns);
-            return Ok(());
-        }
-        let starts = engine.schedule()?;
-        self.retire(engine)?;
         match (found, dive) {
-            (SubsearchState::Schedule, _) => self.begin_with(&starts),
-            (SubsearchState::Stopped, None) => {
-                let end = self.instance.end();
-                let walk = self.walks.as_ref().and_then(|walks| walks.longest(0, end));
-                let likely = self.instance.likely_end(walk.unwrap_or(0));
-                self.begin_first(Some(likely.saturating_add(1)))
-            }
+            (SubsearchState::Open, _) => Ok(()),
+            (SubsearchState::Refuted, None) => self.keep_engine(),
+            (SubsearchState::Schedule, _) => self.begin_with_least(),
+            _ => self.search_elsewhere(found, dive),
+        }
+    }
+
+    /// The search for a first schedule goes on in a dive, or below a greater ceiling, or strategies begin without one.
+    fn search_elsewhere(&mut self, found: SubsearchState, dive: Option<i32>) -> Result<()> {
+        self.retire()?;
+        match (found, dive) {
+            (SubsearchState::Stopped, None) => self.begin_first(Some(self.likely_ceiling())),
             (SubsearchState::Refuted, Some(ceiling)) if ceiling <= self.instance.horizon => {
                 self.begin_first(Some(ceiling.saturating_mul(2)))
             }
@@ -276,16 +328,14 @@ impl<'a> Solver<'a> {
         if matches!(self.stage, Stage::Contradiction) {
             return Ok(());
         }
-        if let Stage::First { engine, .. } = mem::replace(&mut self.stage, Stage::Ready(None)) {
-            self.retire(engine)?;
-        }
+        self.retire()?;
         self.begin_with(starts)
     }
 
     /// The starts of the shortest schedule known, in periods.
     pub fn best(&self) -> Option<&[i32]> {
         match &self.stage {
-            Stage::Contradiction | Stage::First { .. } => None,
+            Stage::Contradiction | Stage::First(_) => None,
             Stage::Ready(start) => start.as_deref(),
             Stage::Turns(turns) => turns.best.as_deref(),
             Stage::Below(search) => search.best(),
@@ -304,7 +354,7 @@ impl<'a> Solver<'a> {
     /// How much was done.
     pub fn counts(&self) -> SearchCounts {
         match &self.stage {
-            Stage::First { engine, .. } => engine.counts,
+            Stage::First(first) => first.engine.counts,
             Stage::Turns(turns) => turns.engine.counts,
             Stage::Below(search) => search.engine.counts,
             _ => self.done,
@@ -314,12 +364,13 @@ impl<'a> Solver<'a> {
     /// What the search has proved since it was asked last, in order. Each lemma holds below the shortest schedule that is
     /// known.
     pub fn events(&mut self) -> Result<Vec<LoggedEvent>> {
-        let mut events = mem::replace(&mut self.told, Vec::new(self.instance.alloc));
-        if let Some(engine) = self.engine_mut() {
-            let mut heard = engine.log.take();
-            events.append(&mut heard)?;
-        }
-        Ok(events)
+        let alloc = self.instance.alloc;
+        let mut heard = match self.engine_mut() {
+            Some(engine) => engine.log.take(),
+            None => Vec::new(alloc),
+        };
+        self.told.append(&mut heard)?;
+        Ok(mem::replace(&mut self.told, Vec::new(alloc)))
     }
 
     /// Whether strategies take turns: then it takes what other searches have proved, and they may take its lemmas. Before
@@ -330,19 +381,25 @@ impl<'a> Solver<'a> {
 
     /// Takes a lemma of another search, which stands in a slot of the record: not all of these arcs hold.
     pub fn import(&mut self, slot: u32, lbd: u32, arcs: &[Lag]) -> Result<()> {
-        let engine = self.engine_mut();
-        engine.map_or(Ok(()), |engine| engine.import(slot, lbd, arcs))
+        match self.engine_mut() {
+            Some(engine) => engine.import(slot, lbd, arcs),
+            None => Ok(()),
+        }
     }
 
     /// Takes an arc that always holds.
     pub fn hold(&mut self, arc: Lag) -> Result<()> {
-        let engine = self.engine_mut();
-        engine.map_or(Ok(()), |engine| engine.hold(arc))
+        match self.engine_mut() {
+            Some(engine) => engine.hold(arc),
+            None => Ok(()),
+        }
     }
 
     /// No search uses the lemma in a slot any more.
     pub fn release(&mut self, slot: u32) -> Result<()> {
-        let engine = self.engine_mut();
-        engine.map_or(Ok(()), |engine| engine.log.release(slot))
+        match self.engine_mut() {
+            Some(engine) => engine.log.release(slot),
+            None => Ok(()),
+        }
     }
 }

@@ -5,6 +5,7 @@ use crate::{Random, WAYS, first_decisions, shortened};
 use engine::{Engine, Pace, Subsearch, SubsearchState};
 use instance::{Instance, Result, Table};
 use propagation::Literal;
+use std::alloc::Global;
 
 /// The most conflicts of a neighbourhood, of a longer step of the whole search, and of the first probes.
 const NEAR: u64 = 100;
@@ -59,6 +60,39 @@ struct Turn {
     ceiling: i32,
 }
 
+/// What is known of strategies.
+#[derive(Drop)]
+struct Strategies {
+    effort: Accounts,
+    /// How many activities are free, in hundredths, by strategy.
+    sizes: Table<u64>,
+    /// Of the whole search and probes, and of neighbourhoods.
+    paces: Table<Pace>,
+}
+
+impl Strategies {
+    /// Nothing was done yet.
+    fn new(alloc: Global) -> Result<Strategies> {
+        let count = WAYS.len().wrapping_add(FIRST_NEAR as usize);
+        Ok(Strategies {
+            effort: Accounts::new(alloc, count)?,
+            sizes: Table::filled(alloc, count, FIRST_FREE, FIRST_FREE)?,
+            paces: Table::filled(alloc, 2, Pace::default(), Pace::default())?,
+        })
+    }
+
+    /// A neighbourhood was refuted, stopped, or had a shorter schedule. At most so many activities are free.
+    fn note_neighbourhood(&mut self, strategy: u32, found: SubsearchState, most: u32) {
+        let next = self.sizes[strategy].wrapping_mul(match found {
+            SubsearchState::Refuted => REFUTED,
+            SubsearchState::Schedule => 100,
+            _ => STOPPED,
+        }) / 100;
+        let most = u64::from(most).wrapping_mul(100);
+        self.sizes[strategy] = next.min(most).max(LEAST_FREE);
+    }
+}
+
 /// The search of a project below a ceiling.
 #[derive(Drop)]
 pub(crate) struct Turns<'a> {
@@ -72,11 +106,7 @@ pub(crate) struct Turns<'a> {
     pub(crate) ceiling: i32,
     /// No schedule ends before it, as far as the root knew at the last turn.
     bound: i32,
-    effort: Accounts,
-    /// How many activities are free, in hundredths, by strategy.
-    sizes: Table<u64>,
-    /// Of the whole search and probes, and of neighbourhoods.
-    paces: Table<Pace>,
+    strategies: Strategies,
     /// How far probes reach above the bound, and the whole search below the ceiling.
     above: i32,
     below: i32,
@@ -95,18 +125,16 @@ impl<'a> Turns<'a> {
         ceiling: i32,
         seed: u64,
     ) -> Result<Turns<'a>> {
-        let (alloc, strategies) = (instance.alloc, WAYS.len().wrapping_add(FIRST_NEAR as usize));
+        let strategies = Strategies::new(instance.alloc)?;
         Ok(Turns {
             instance,
             engine,
             best: None,
-            late: Vec::new(alloc),
+            late: Vec::new(instance.alloc),
             finder: Finder::Other,
             ceiling,
             bound: 0,
-            effort: Accounts::new(alloc, strategies)?,
-            sizes: Table::filled(alloc, strategies, FIRST_FREE, FIRST_FREE)?,
-            paces: Table::filled(alloc, 2, Pace::default(), Pace::default())?,
+            strategies,
             above: 1,
             below: 1,
             slice: FIRST_SLICE,
@@ -144,14 +172,26 @@ impl<'a> Turns<'a> {
         let (Some(starts), Some(way)) = (&self.best, WAYS.get(place)) else {
             return Ok(Vec::new(self.instance.alloc));
         };
-        let (instance, free) = (self.instance, (self.sizes[strategy] / 100) as usize);
+        let (instance, free) = (
+            self.instance,
+            (self.strategies.sizes[strategy] / 100) as usize,
+        );
         first_decisions(instance, *way, starts, &self.late, free, &mut self.random)
+    }
+
+    /// The first decision that supposes an end, unless all schedules below the ceiling end by then.
+    fn supposed_end(&self, goal: i32) -> Result<Vec<Literal>> {
+        let mut first = Vec::new(self.instance.alloc);
+        if goal < self.ceiling.wrapping_sub(1) {
+            first.push(Literal::at_most(self.instance.end(), goal))?;
+        }
+        Ok(first)
     }
 
     /// The next turn, from the values of the best schedule.
     fn next_turn(&mut self) -> Result<Turn> {
         let strategy = match self.has_probed {
-            true => self.effort.next(self.best.is_some()),
+            true => self.strategies.effort.next(self.best.is_some()),
             false => PROBE,
         };
         let (events, ceiling) = (self.engine.counts.events, self.ceiling);
@@ -161,16 +201,14 @@ impl<'a> Turns<'a> {
             PROBE => self.probe(),
             _ => (i32::MAX, NEAR),
         };
-        let mut first = Vec::new(self.instance.alloc);
-        if strategy >= FIRST_NEAR {
-            first = self.neighbourhood(strategy)?;
-        } else if goal < ceiling.wrapping_sub(1) {
-            first.push(Literal::at_most(self.instance.end(), goal))?;
-        }
+        let first = match strategy >= FIRST_NEAR {
+            true => self.neighbourhood(strategy)?,
+            false => self.supposed_end(goal)?,
+        };
         if let Some(starts) = &self.best {
             self.engine.prefer(starts);
         }
-        let pace = self.paces[u32::from(strategy >= FIRST_NEAR)];
+        let pace = self.strategies.paces[u32::from(strategy >= FIRST_NEAR)];
         let run = self.engine.start(first, most, pace)?;
         Ok(Turn {
             strategy,
@@ -180,21 +218,27 @@ impl<'a> Turns<'a> {
         })
     }
 
-    /// A neighbourhood was refuted, stopped, or had a shorter schedule.
-    fn note_neighbourhood(&mut self, strategy: u32, found: SubsearchState) {
-        let next = self.sizes[strategy].wrapping_mul(match found {
-            SubsearchState::Refuted => REFUTED,
-            SubsearchState::Schedule => 100,
-            _ => STOPPED,
-        }) / 100;
-        let most = u64::from(self.instance.count()).wrapping_mul(100);
-        self.sizes[strategy] = next.min(most).max(LEAST_FREE);
+    /// How far the next turn of a strategy goes, after one that found this.
+    fn note(&mut self, strategy: u32, found: SubsearchState) {
+        match strategy {
+            WHOLE => self.below = next_step(self.below, found == SubsearchState::Schedule),
+            PROBE => {
+                let is_refuted = found == SubsearchState::Refuted;
+                self.has_probed = self.has_probed || self.above == 1 && !is_refuted;
+                self.above = next_step(self.above, is_refuted);
+            }
+            strategy => {
+                let most = self.instance.count();
+                self.strategies.note_neighbourhood(strategy, found, most);
+            }
+        }
     }
 
     /// A turn is over.
-    fn end_turn(&mut self, turn: Turn, found: SubsearchState) -> Result<()> {
-        self.paces[u32::from(turn.strategy >= FIRST_NEAR)] = turn.run.pace;
-        let finder = match turn.strategy {
+    fn end_turn(&mut self, turn: &Turn, found: SubsearchState) -> Result<()> {
+        let strategy = turn.strategy;
+        self.strategies.paces[u32::from(strategy >= FIRST_NEAR)] = turn.run.pace;
+        let finder = match strategy {
             WHOLE => Finder::Whole,
             PROBE => Finder::Probe,
             _ => Finder::Neighbourhood,
@@ -203,19 +247,11 @@ impl<'a> Turns<'a> {
             let starts = self.engine.schedule()?;
             self.take(&starts, finder)?;
         }
-        match turn.strategy {
-            WHOLE => self.below = next_step(self.below, found == SubsearchState::Schedule),
-            PROBE => {
-                let is_refuted = found == SubsearchState::Refuted;
-                self.has_probed = self.has_probed || self.above == 1 && !is_refuted;
-                self.above = next_step(self.above, is_refuted);
-            }
-            strategy => self.note_neighbourhood(strategy, found),
-        }
+        self.note(strategy, found);
         let events = self.engine.counts.events.wrapping_sub(turn.events);
         let gain = turn.ceiling.saturating_sub(self.ceiling);
         if self.has_probed {
-            self.effort.pay(turn.strategy, events, gain);
+            self.strategies.effort.pay(strategy, events, gain);
         }
         Ok(())
     }
@@ -236,7 +272,8 @@ impl<'a> Turns<'a> {
 
     /// Takes a schedule from elsewhere, if it is shorter. The turn that goes on is over.
     pub(crate) fn take_other(&mut self, starts: &[i32]) -> Result<()> {
-        if starts.last().is_some_and(|end| *end < self.ceiling) {
+        let end = starts.last().copied().unwrap_or(i32::MAX);
+        if end < self.ceiling {
             self.take(starts, Finder::Other)?;
             self.stop()?;
         }
@@ -245,8 +282,10 @@ impl<'a> Turns<'a> {
 
     /// The turn that goes on is over.
     pub(crate) fn stop(&mut self) -> Result<()> {
-        let turn = self.turn.take();
-        turn.map_or(Ok(()), |turn| self.end_turn(turn, SubsearchState::Stopped))
+        match self.turn.take() {
+            Some(turn) => self.end_turn(&turn, SubsearchState::Stopped),
+            None => Ok(()),
+        }
     }
 
     /// Searches for so many steps: conflicts and decisions.
@@ -257,7 +296,7 @@ impl<'a> Turns<'a> {
         };
         match self.engine.search(&mut turn.run, steps)? {
             SubsearchState::Open => self.turn = Some(turn),
-            found => self.end_turn(turn, found)?,
+            found => self.end_turn(&turn, found)?,
         }
         Ok(())
     }
