@@ -22,7 +22,7 @@ pub struct CubeResult {
 }
 
 /// Writes numbers as a list of JSON.
-fn put_list(out: &mut String, numbers: &[i64]) -> Result<(), AllocError> {
+fn put_list(out: &mut String, numbers: &[i32]) -> Result<(), AllocError> {
     out.push_str("[")?;
     for (place, number) in numbers.iter().enumerate() {
         let comma = if place > 0 { "," } else { "" };
@@ -32,17 +32,14 @@ fn put_list(out: &mut String, numbers: &[i64]) -> Result<(), AllocError> {
 }
 
 /// Writes the makespan and the starts of a schedule.
-fn put_schedule(alloc: Global, out: &mut String, best: Option<&[i32]>) -> Result<(), AllocError> {
+fn put_schedule(out: &mut String, best: Option<&[i32]>) -> Result<(), AllocError> {
     let Some(starts) = best else {
         write!(out, "\"makespan\":null,\"starts\":null")?;
         return Ok(());
     };
     let end = starts.last().copied().unwrap_or(0);
     write!(out, "\"makespan\":{end},\"starts\":")?;
-    let starts = starts.iter().map(|start| i64::from(*start));
-    let starts: Vec<i64> = starts.collect(alloc)?;
-    put_list(out, &starts)?;
-    Ok(())
+    put_list(out, starts)
 }
 
 /// Writes a part of what is open.
@@ -55,30 +52,44 @@ fn put_piece(out: &mut String, piece: &Piece) -> Result<(), AllocError> {
     out.push_str("]}")
 }
 
+/// Writes the parts of what is open.
+fn put_pieces(out: &mut String, pieces: &[Piece]) -> Result<(), AllocError> {
+    out.push_str(",\"pieces\":[")?;
+    for (place, piece) in pieces.iter().enumerate() {
+        let comma = if place > 0 { "," } else { "" };
+        out.push_str(comma)?;
+        put_piece(out, piece)?;
+    }
+    out.push_str("]")
+}
+
 impl CubeResult {
-    /// One line of JSON.
-    pub fn json(&self, alloc: Global) -> Result<String, AllocError> {
-        let mut out = String::new(alloc);
-        let cube = if self.is_refuted { "refuted" } else { "open" };
-        write!(out, "{{\"cube\":\"{cube}\",")?;
-        put_schedule(alloc, &mut out, self.best.as_deref())?;
-        write!(out, ",\"pieces\":[")?;
-        for (place, piece) in self.pieces.iter().enumerate() {
-            let comma = if place > 0 { "," } else { "" };
-            out.push_str(comma)?;
-            put_piece(&mut out, piece)?;
-        }
+    /// Writes how much was done.
+    fn put_counts(&self, out: &mut String) -> Result<(), AllocError> {
         let SearchCounts {
             conflicts,
             decisions,
             ..
         } = self.counts;
         let (bytes, seconds) = (self.record_bytes, self.seconds);
-        write!(
-            out,
-            "],\"conflicts\":{conflicts},\"decisions\":{decisions},"
-        )?;
-        write!(out, "\"record_bytes\":{bytes},\"seconds\":{seconds}}}\n")?;
+        write!(out, ",\"conflicts\":{conflicts},\"decisions\":{decisions}")?;
+        write!(out, ",\"record_bytes\":{bytes},\"seconds\":{seconds}}}\n")?;
+        Ok(())
+    }
+
+    /// Writes the line of JSON.
+    fn put_json(&self, out: &mut String) -> Result<(), AllocError> {
+        let cube = if self.is_refuted { "refuted" } else { "open" };
+        write!(out, "{{\"cube\":\"{cube}\",")?;
+        put_schedule(out, self.best.as_deref())?;
+        put_pieces(out, &self.pieces)?;
+        self.put_counts(out)
+    }
+
+    /// One line of JSON.
+    pub fn json(&self, alloc: Global) -> Result<String, AllocError> {
+        let mut out = String::new(alloc);
+        self.put_json(&mut out)?;
         Ok(out)
     }
 }

@@ -8,7 +8,7 @@ use network::{Lag, Project};
 use std::alloc::{AllocError, Global};
 use std::io::Write;
 use std::time::{Clock, Instant};
-use strategies::{CubeSearch, Cubed, Slots, SolverOptions};
+use strategies::{CubeSearch, Cubed, Piece, Slots, SolverOptions};
 
 /// How far a search may go, and from where it breaks ties.
 #[derive(Clone, Copy, PartialEq, Eq, Debug)]
@@ -83,13 +83,13 @@ fn narrowed(alloc: Global, starts: &[i64]) -> Result<Vec<i32>, AllocError> {
 
 /// A search, its log, and the makespan that schedules are to be shorter than.
 #[derive(Drop)]
-struct CubeSearcher<'i> {
-    search: CubeSearch<'i>,
-    log: CubeLog,
+struct CubeSearcher<'s, 'i> {
+    search: &'s mut CubeSearch<'i>,
+    log: &'s mut CubeLog,
     ceiling: i32,
 }
 
-impl CubeSearcher<'_> {
+impl CubeSearcher<'_, '_> {
     /// Takes a schedule that others have found, if it is shorter.
     fn hear(&mut self, starts: &[i32]) -> Result<(), AllocError> {
         let end = starts.last().copied().unwrap_or(i32::MAX);
@@ -154,6 +154,17 @@ fn seconds<R: Clock>(rt: &R, since: Option<Instant>) -> Option<u64> {
     spent.map(|spent| spent.as_secs())
 }
 
+/// Tells a search which starts to try first, and what others have proved.
+fn prepare(alloc: Global, search: &mut CubeSearch<'_>, cube: Cube<'_>) -> Result<(), AllocError> {
+    if let Some(starts) = cube.guide.or(cube.start) {
+        search.prefer(&narrowed(alloc, starts)?);
+    }
+    for (slot, lemma) in cube.lemmas.iter().enumerate() {
+        search.import(narrow(slot), lemma.lbd, &lemma.arcs)?;
+    }
+    search.begin()
+}
+
 /// A search of a cube that knows what others have proved. None where the project contradicts itself.
 fn opened<'i>(
     alloc: Global,
@@ -172,24 +183,26 @@ fn opened<'i>(
         },
         below: None,
     };
-    let mut search = match CubeSearch::open(instance, limits, ceiling, cube.path)? {
-        Cubed::Search(search) => search,
-        Cubed::Contradiction => return Ok(None),
-        Cubed::Other(place) => return Err(CubeFault::Arc(place)),
-    };
-    if let Some(starts) = cube.guide.or(cube.start) {
-        search.prefer(&narrowed(alloc, starts)?);
+    match CubeSearch::open(instance, limits, ceiling, cube.path)? {
+        Cubed::Search(mut search) => {
+            prepare(alloc, &mut search, cube)?;
+            Ok(Some(search))
+        }
+        Cubed::Contradiction => Ok(None),
+        Cubed::Other(place) => Err(CubeFault::Arc(place)),
     }
-    for (slot, lemma) in cube.lemmas.iter().enumerate() {
-        search.import(narrow(slot), lemma.lbd, &lemma.arcs)?;
-    }
-    search.begin()?;
-    Ok(Some(search))
 }
 
-/// What is found of a project that contradicts itself: there is nothing to search.
-fn nothing_open(alloc: Global, log: &CubeLog) -> CubeResult {
-    CubeResult {
+/// What is found of a project that contradicts itself: there is nothing to search. Its log is written.
+fn nothing_open<W: Write>(
+    alloc: Global,
+    log: &mut CubeLog,
+    record: &mut W,
+) -> Result<CubeResult, CubeFault> {
+    if log.write(record).is_err() {
+        return Err(CubeFault::Record);
+    }
+    Ok(CubeResult {
         is_refuted: true,
         best: None,
         pieces: Vec::new(alloc),
@@ -197,7 +210,18 @@ fn nothing_open(alloc: Global, log: &CubeLog) -> CubeResult {
         record_bytes: log.bytes(),
         seconds: 0,
         lemmas: String::new(alloc),
-    }
+    })
+}
+
+/// A log that begins with the schedule that is known, if there is one, and the makespan of that.
+fn begun(alloc: Global, start: Option<&[i64]>) -> Result<(CubeLog, Option<i32>), AllocError> {
+    let mut log = CubeLog::new(alloc)?;
+    let Some(starts) = start else {
+        return Ok((log, None));
+    };
+    let starts = narrowed(alloc, starts)?;
+    log.schedule(&starts)?;
+    Ok((log, starts.last().copied()))
 }
 
 /// Searches a cube within limits, and writes the log of that.
@@ -210,35 +234,41 @@ pub fn search_cube<R: Clock, H: CubeHost, W: Write>(
     record: &mut W,
 ) -> Result<CubeResult, CubeFault> {
     let since = Instant::now(rt).ok();
-    let mut log = CubeLog::new(alloc)?;
-    let mut ceiling = None;
-    if let Some(starts) = cube.start {
-        let starts = narrowed(alloc, starts)?;
-        ceiling = starts.last().copied();
-        log.schedule(&starts)?;
-    }
+    let (mut log, ceiling) = begun(alloc, cube.start)?;
     let instance = Instance::new(alloc, cube.project)?;
-    let Some(search) = opened(alloc, &instance, cube, limit, ceiling)? else {
-        return match log.write(record) {
-            Ok(()) => Ok(nothing_open(alloc, &log)),
-            Err(_) => Err(CubeFault::Record),
-        };
-    };
-    let ceiling = ceiling.unwrap_or(i32::MAX);
-    let mut searcher = CubeSearcher {
-        search,
-        log,
-        ceiling,
-    };
-    searcher.search_within(rt, host, limit, since, record)?;
-    let spent = seconds(rt, since).unwrap_or(0);
-    searcher.found(alloc, limit, spent, record)
+    match opened(alloc, &instance, cube, limit, ceiling)? {
+        Some(mut search) => {
+            let mut searcher = CubeSearcher {
+                search: &mut search,
+                log: &mut log,
+                ceiling: ceiling.unwrap_or(i32::MAX),
+            };
+            searcher.search(rt, alloc, host, limit, since, record)
+        }
+        None => nothing_open(alloc, &mut log, record),
+    }
 }
 
-impl CubeSearcher<'_> {
+impl CubeSearcher<'_, '_> {
+    /// Parts of what is open, if they are asked for.
+    fn pieces(&mut self, alloc: Global, limit: Limit) -> Result<Vec<Piece>, AllocError> {
+        if limit.pieces <= 1 || self.search.is_refuted() {
+            return Ok(Vec::new(alloc));
+        }
+        self.search.pieces(limit.pieces.min(1_024) as usize)
+    }
+
+    /// The starts of the shortest schedule that the search has found.
+    fn best(&self, alloc: Global) -> Result<Option<Vec<i32>>, AllocError> {
+        match self.search.best() {
+            Some(starts) => Ok(Some(starts.to_vec(alloc)?)),
+            None => Ok(None),
+        }
+    }
+
     /// What became of the cube. What the search told last is logged.
     fn found<W: Write>(
-        mut self,
+        &mut self,
         alloc: Global,
         limit: Limit,
         seconds: u64,
@@ -249,22 +279,29 @@ impl CubeSearcher<'_> {
             return Err(CubeFault::Record);
         }
         let is_refuted = self.search.is_refuted();
-        let mut pieces = Vec::new(alloc);
-        if !is_refuted && limit.pieces > 1 {
-            pieces = self.search.pieces(limit.pieces.min(1_024) as usize)?;
-        }
-        let best = match self.search.best() {
-            Some(starts) => Some(starts.to_vec(alloc)?),
-            None => None,
-        };
         Ok(CubeResult {
             is_refuted,
-            best,
-            pieces,
+            pieces: self.pieces(alloc, limit)?,
+            best: self.best(alloc)?,
             counts: self.search.counts(),
             record_bytes: self.log.bytes(),
             seconds,
             lemmas: self.log.lemmas()?,
         })
+    }
+
+    /// Searches within limits, and says what became of the cube.
+    fn search<R: Clock, H: CubeHost, W: Write>(
+        &mut self,
+        rt: &R,
+        alloc: Global,
+        host: &H,
+        limit: Limit,
+        since: Option<Instant>,
+        record: &mut W,
+    ) -> Result<CubeResult, CubeFault> {
+        self.search_within(rt, host, limit, since, record)?;
+        let spent = seconds(rt, since).unwrap_or(0);
+        self.found(alloc, limit, spent, record)
     }
 }
