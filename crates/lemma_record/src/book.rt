@@ -75,11 +75,11 @@ impl<'a, J: Naming> LemmaBook<'a, J> {
     ) -> Result<LemmaBook<'a, J>, AllocError>
         ensures { IfOk result (λ x. x ≡ first_book project.now) }
     {
-        let ledger = Ledger::new(alloc, project)?;
         let mut title = Vec::new(alloc);
         put_title(&mut title)?;
         let mut log = log.text();
         log.push(&title)?;
+        let ledger = Ledger::new(alloc, project)?;
         Ok(LemmaBook {
             alloc,
             ledger,
@@ -137,14 +137,22 @@ impl<'a, J: Naming> LemmaBook<'a, J> {
             IsShownOf self.entry.ledger.project log shown)) }
         ensures best { IfOk result (λ shown. IsBest self.entry.ledger shown.best) }
     {
-        let LemmaBook { alloc, ledger, log } = self;
-        let Some(_log) = log else {
+        self.shown()
+    }
+
+    /// What is proved so far.
+    fn shown(&self) -> Result<Shown, AllocError>
+        ensures proof { IfOk result (λ shown. IsSomeAnd self.now.log (λ log.
+            IsShownOf self.now.ledger.project log shown)) }
+        ensures best { IfOk result (λ shown. IsBest self.now.ledger shown.best) }
+    {
+        let Some(_log) = &self.log else {
             return Err(AllocError);
         };
-        let proved = ledger.claim();
-        let mut end = Vec::new(alloc);
+        let proved = self.ledger.claim();
+        let mut end = Vec::new(self.alloc);
         put_event(&mut end, &Event::Claim(proved))?;
-        let best = starts_of(alloc, ledger.best())?;
+        let best = starts_of(self.alloc, self.ledger.best())?;
         Ok(Shown { proved, best, end })
     }
 }

@@ -3,7 +3,7 @@ use Rattle.lemma_record.specs.Texts.{whole}
 use Rattle.lemma_log.specs.Text.{IsWritableClaim}
 use Rattle.lemma_record.specs.LemmaBook.{BookOf, IsLogOf}
 use Rattle.lemma_record.proofs.Booked.{best_shown, closed, feasible_shown, small_fits}
-use Rattle.lemma_record.proofs.book.LemmaBook.close.Goals as goal
+use Rattle.lemma_record.proofs.book.LemmaBook.shown.Goals as goal
 
 pub returns-clause-proof : goal.returns-clause-proof
 returns-clause-proof g c =
