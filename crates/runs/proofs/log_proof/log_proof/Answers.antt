@@ -9,5 +9,5 @@ returns-clause-said g c = (
       let p = c.args.project.now in
       let text = c.args.head.now ++ rest in
       log_proof_of c.args.scope.now p text c.of.result.text.items c.in_ok-shown.shown c.requires.project c.claim_law.ensures.so_far
-      (c.in_ok-shown.ensures.shown p text (c.in_ok-checker.ensures.read rest told)) (c.of.ensures.text ∙ c.in_ok-text.ensures),
+      (c.in_ok-shown.ensures.shown rest told) (c.of.ensures.text ∙ c.in_ok-text.ensures),
 )
