@@ -49,6 +49,36 @@ fn narrowed(alloc: Global, starts: &[i64]) -> Result<Vec<i32>, AllocError> {
     starts.collect(alloc)
 }
 
+/// The makespan of the best schedule of a search.
+fn makespan_of(solver: &Solver<'_>) -> Option<i64> {
+    solver.best()?.last().copied().map(i64::from)
+}
+
+/// Offers a book the starts of a schedule, if there are any.
+fn offer_start<J: Naming>(
+    alloc: Global,
+    book: &mut LemmaBook<'_, J>,
+    start: Option<&[i64]>,
+) -> Result<(), AllocError> {
+    if let Some(start) = start {
+        let starts = Starts::new(Vec::from_slice(alloc, start)?);
+        book.offer(Event::Schedule { starts })?;
+    }
+    Ok(())
+}
+
+/// A book that may know the starts of a schedule.
+fn begun<'a, J: Naming>(
+    alloc: Global,
+    project: &'a Project,
+    start: Option<&[i64]>,
+    log: Blank<J>,
+) -> Result<LemmaBook<'a, J>, AllocError> {
+    let mut book = LemmaBook::new(alloc, project, log)?;
+    offer_start(alloc, &mut book, start)?;
+    Ok(book)
+}
+
 /// A lemma that waits on a desk.
 #[derive(Clone, Copy)]
 pub(crate) struct Waiting {
@@ -81,15 +111,12 @@ impl<'a, J: Naming> Board<'a, J> {
         start: Option<&[i64]>,
         log: Blank<J>,
     ) -> Result<Board<'a, J>, AllocError> {
-        let mut book = LemmaBook::new(alloc, project, log)?;
-        if let Some(start) = start {
-            let starts = Starts::new(Vec::from_slice(alloc, start)?);
-            book.offer(Event::Schedule { starts })?;
-        }
+        let shelf = Shelf::new(alloc, jobs)?;
+        let book = begun(alloc, project, start, log)?;
         Ok(Board {
             alloc,
             book,
-            shelf: Shelf::new(alloc, jobs)?,
+            shelf,
             finder: Finder::Other,
             reporter: Reporter::NOTHING,
             is_over: false,
@@ -105,18 +132,59 @@ impl<'a, J: Naming> Board<'a, J> {
         self.book.ledger().best()?.last().copied()
     }
 
-    /// A search and the book tell each other the best schedule.
-    pub(crate) fn exchange(&mut self, solver: &mut Solver<'_>) -> Result<(), AllocError> {
-        let mine = self.makespan().unwrap_or(i64::MAX);
-        let found = solver.best();
-        let theirs = found.and_then(|starts| starts.last().copied());
-        let theirs = theirs.map_or(i64::MAX, i64::from);
-        if let (Some(starts), true) = (found, theirs < mine) {
+    /// The book takes the best schedule of a search.
+    fn take_best(&mut self, solver: &Solver<'_>) -> Result<(), AllocError> {
+        if let Some(starts) = solver.best() {
             let starts = widened(self.alloc, starts)?;
             self.finder = solver.finder();
             self.book.offer(Event::Schedule { starts })?;
-        } else if let (Some(starts), true) = (self.book.ledger().best(), mine < theirs) {
+        }
+        Ok(())
+    }
+
+    /// A search takes the best schedule of the book.
+    fn give_best(&self, solver: &mut Solver<'_>) -> Result<(), AllocError> {
+        if let Some(starts) = self.book.ledger().best() {
             solver.take(&narrowed(self.alloc, starts)?)?;
+        }
+        Ok(())
+    }
+
+    /// A search and the book tell each other the best schedule.
+    pub(crate) fn exchange(&mut self, solver: &mut Solver<'_>) -> Result<(), AllocError> {
+        let mine = self.makespan().unwrap_or(i64::MAX);
+        let theirs = makespan_of(solver).unwrap_or(i64::MAX);
+        if theirs < mine {
+            self.take_best(solver)
+        } else if mine < theirs {
+            self.give_best(solver)
+        } else {
+            Ok(())
+        }
+    }
+
+    /// A search uses a lemma that was taken. Other jobs hear of one of few arcs if the search shares it.
+    fn keep(&mut self, job: usize, lemma: Waiting, shares: bool) -> Result<(), AllocError> {
+        let (slot, lbd) = (lemma.slot, lemma.lbd);
+        self.shelf.put(slot, 1)?;
+        if shares && lemma.arcs <= LONG {
+            self.shelf.announce(job, Fact::Lemma { slot, lbd })?;
+        }
+        Ok(())
+    }
+
+    /// A search uses the lemmas of which it is said that they were taken.
+    fn keep_all(
+        &mut self,
+        job: usize,
+        lemmas: &[Waiting],
+        taken: &[bool],
+        shares: bool,
+    ) -> Result<(), AllocError> {
+        for (lemma, is_taken) in lemmas.iter().zip(taken) {
+            if *is_taken {
+                self.keep(job, *lemma, shares)?;
+            }
         }
         Ok(())
     }
@@ -130,17 +198,7 @@ impl<'a, J: Naming> Board<'a, J> {
         shares: bool,
     ) -> Result<(), AllocError> {
         let accepted = self.book.accept(desk)?;
-        for (lemma, taken) in lemmas.iter().zip(&accepted) {
-            if !*taken {
-                continue;
-            }
-            let (slot, lbd) = (lemma.slot, lemma.lbd);
-            self.shelf.put(slot, 1)?;
-            if shares && lemma.arcs <= LONG {
-                self.shelf.announce(job, Fact::Lemma { slot, lbd })?;
-            }
-        }
-        Ok(())
+        self.keep_all(job, lemmas, &accepted, shares)
     }
 
     /// Takes another event of a search. A lemma goes if no other job uses it. Other jobs hear of arcs of the root.
@@ -231,6 +289,12 @@ impl<'a, J: Naming> Board<'a, J> {
     pub(crate) fn give_up(&mut self) {
         self.is_short_of_memory = true;
         self.is_over = true;
+    }
+
+    /// The book, when nothing else is asked any more.
+    pub(crate) fn into_book(self) -> LemmaBook<'a, J> {
+        let Board { book, .. } = self;
+        book
     }
 
     /// Where the searches stood when they stopped. Where memory ran out in one, another must have ended.

@@ -1,6 +1,6 @@
 //! Searches side by side, and what they found together.
 
-ghost use Rattle.std.specs.Prelude.{◌++◌, IfOk};
+ghost use Rattle.std.specs.Prelude.{◌≡◌, ◌++◌, Some, IfOk, OnOk};
 ghost use Rattle.lemma_record.specs.LemmaBook.{IsShownOf};
 
 use crate::asked::SolveOptions;
@@ -107,6 +107,24 @@ fn falls_short(asked: SolveOptions, proved: Verdict) -> bool {
     below.is_none_or(|below| bound < below)
 }
 
+/// Records the rest of the log of a book of this project.
+fn record_rest<H: Host, D: Output, J: Naming + Before>(
+    book: &mut LemmaBook<'_, J>,
+    project: &Project,
+    recorder: &mut Recorder<'_, H, D, J>,
+) -> Result<(), SearchFault>
+    ensures project { OnOk result (book.new.ledger.project ≡ project.now) }
+    ensures log { OnOk result (book.new.log ≡ Some recorder.new.taken) }
+{
+    if !book.ledger().project().is_same(project) {
+        return Err(SearchFault::Refused);
+    }
+    if !recorder.record(book) {
+        return Err(SearchFault::Memory);
+    }
+    Ok(())
+}
+
 /// What the book shows that searches left. The rest of its log is recorded.
 fn shown<H: Host, D: Output, J: Naming + Before>(
     mut book: LemmaBook<'_, J>,
@@ -115,12 +133,7 @@ fn shown<H: Host, D: Output, J: Naming + Before>(
 ) -> Result<Shown, SearchFault>
     ensures { IfOk result (IsShownOf project.now recorder.new.taken) }
 {
-    if !book.ledger().project().is_same(project) {
-        return Err(SearchFault::Refused);
-    }
-    if !recorder.record(&mut book) {
-        return Err(SearchFault::Memory);
-    }
+    record_rest(&mut book, project, recorder)?;
     Ok(book.close()?)
 }
 
@@ -139,6 +152,43 @@ fn resume<R: Eprint, J: Naming>(
             Err(SearchFault::Refused)
         }
     }
+}
+
+/// The book takes the log that is gone on from, and the logs of cubes. How many slots it uses.
+fn begin<R: Eprint, H: Host, D: Output, J: Naming + Before>(
+    rt: &R,
+    alloc: Global,
+    board: &mut Board<'_, J>,
+    recorder: &mut Recorder<'_, H, D, J>,
+) -> Result<usize, SearchFault> {
+    let slots = resume(rt, alloc, board, recorder.host().resumed())?;
+    Ok(join_all(rt, alloc, &mut board.book, recorder, slots)?)
+}
+
+/// What searches leave that have stopped: what their book shows, and how much they did.
+fn left<R: Clock + Eprint, H: Host, D: Output, J: Naming + Before>(
+    rt: &R,
+    asked: SolveOptions,
+    watch: Stopwatch,
+    project: &Project,
+    board: Board<'_, J>,
+    recorder: &mut Recorder<'_, H, D, J>,
+) -> Result<SearchResult, SearchFault>
+    ensures { IfOk result (λ found. IsShownOf project.now recorder.new.taken found.shown) }
+{
+    let state = board.state()?;
+    tell_stop(rt, state);
+    let (conflicts, decisions) = (board.conflicts, board.decisions);
+    let shown = shown(board.into_book(), project, recorder)?;
+    if state == State::Ended && falls_short(asked, shown.proved) {
+        return Err(SearchFault::Refused);
+    }
+    Ok(SearchResult {
+        shown,
+        conflicts,
+        decisions,
+        seconds: watch.seconds(rt).unwrap_or(0),
+    })
 }
 
 /// What searches within limits find together, perhaps from a schedule of the project.
@@ -160,8 +210,7 @@ pub(crate) fn searched<
 {
     let watch = Stopwatch::start(rt);
     let mut board = Board::new(alloc, project, asked.jobs, start, log)?;
-    let slots = resume(rt, alloc, &mut board, recorder.host().resumed())?;
-    let slots = join_all(rt, alloc, &mut board.book, recorder, slots)?;
+    let slots = begin(rt, alloc, &mut board, recorder)?;
     let board = Mutex::new(board);
     let run = JobContext {
         asked,
@@ -171,23 +220,5 @@ pub(crate) fn searched<
         board: &board,
     };
     search_all(rt, alloc, &run, recorder)?;
-    let board = board.into_inner();
-    let state = board.state()?;
-    tell_stop(rt, state);
-    let Board {
-        book,
-        conflicts,
-        decisions,
-        ..
-    } = board;
-    let shown = shown(book, project, recorder)?;
-    if state == State::Ended && falls_short(asked, shown.proved) {
-        return Err(SearchFault::Refused);
-    }
-    Ok(SearchResult {
-        shown,
-        conflicts,
-        decisions,
-        seconds: watch.seconds(rt).unwrap_or(0),
-    })
+    left(rt, asked, watch, project, board.into_inner(), recorder)
 }

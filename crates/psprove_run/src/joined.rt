@@ -1,7 +1,7 @@
 //! A book that begins with the logs of cubes.
 
 use crate::host::Host;
-use crate::joining::{Joint, want};
+use crate::joining::{Joint, Key, want};
 use crate::recorder::{Before, Recorder};
 use crate::resuming::ResumeFault;
 use cubes::{CubeLemma, SearchedCube, TextFault, lemmas_of};
@@ -49,6 +49,25 @@ fn comes_again(later: &[SearchedCube], cube: &SearchedCube) -> bool {
         .any(|other| other.name.starts_with(cube.name.as_str()))
 }
 
+/// Tells what is wrong with the log of a cube that was joined, if a later one doesn't do without it.
+fn tell_joined<R: Eprint>(
+    rt: &R,
+    cube: &SearchedCube,
+    later: &[SearchedCube],
+    joined: Result<bool, ResumeFault>,
+) -> Result<(), AllocError> {
+    match joined {
+        Ok(true) => {}
+        Ok(false) if comes_again(later, cube) => {}
+        Ok(false) => tell(rt, cube, "its log does not refute it"),
+        Err(ResumeFault::Memory) => return Err(AllocError),
+        Err(ResumeFault::Event(number)) => {
+            let _ = eprintln!(rt; "psprove: cube {}: event {number} is wrong", name_of(cube));
+        }
+    }
+    Ok(())
+}
+
 /// Joins the log of the cube at a place, and tells what is wrong with it.
 fn join<R: Eprint, H: Host, J: Naming>(
     rt: &R,
@@ -69,16 +88,44 @@ fn join<R: Eprint, H: Host, J: Naming>(
         tell(rt, cube, "its log can't be read");
         return Ok(());
     };
-    match joint.join(book, cube, &given, &log) {
-        Ok(true) => {}
-        Ok(false) if comes_again(later, cube) => {}
-        Ok(false) => tell(rt, cube, "its log does not refute it"),
-        Err(ResumeFault::Memory) => return Err(AllocError),
-        Err(ResumeFault::Event(number)) => {
-            let _ = eprintln!(rt; "psprove: cube {}: event {number} is wrong", name_of(cube));
-        }
+    let joined = joint.join(book, cube, &given, &log);
+    tell_joined(rt, cube, later, joined)
+}
+
+/// Adds the arcs of what the search of a cube was given.
+fn want_of<H: Host>(
+    alloc: Global,
+    host: &H,
+    cube: &SearchedCube,
+    wanted: &mut HashSet<Key>,
+) -> Result<(), AllocError> {
+    let given = given_of(alloc, host, cube)?;
+    want(alloc, wanted, given.as_deref().unwrap_or(&[]))
+}
+
+/// The arcs of what the searches of all cubes were given.
+fn wanted_of<H: Host>(alloc: Global, host: &H) -> Result<HashSet<Key>, AllocError> {
+    let mut wanted = HashSet::new(alloc);
+    for cube in host.cubes() {
+        want_of(alloc, host, cube, &mut wanted)?;
     }
-    Ok(())
+    Ok(wanted)
+}
+
+/// Joins the logs of all cubes, and then nodes of which both halves are closed.
+fn join_each<R: Eprint, H: Host, D: Output, J: Naming + Before>(
+    rt: &R,
+    alloc: Global,
+    joint: &mut Joint,
+    book: &mut LemmaBook<'_, J>,
+    recorder: &mut Recorder<'_, H, D, J>,
+) -> Result<(), AllocError> {
+    let host = recorder.host();
+    for place in 0..host.cubes().len() {
+        join(rt, alloc, host, place, joint, book)?;
+        recorder.record(book);
+    }
+    joint.close_nodes(book)
 }
 
 /// The book, of which so many slots are used, takes the logs of all cubes. They are recorded as they come. How many slots
@@ -90,17 +137,8 @@ pub(crate) fn join_all<R: Eprint, H: Host, D: Output, J: Naming + Before>(
     recorder: &mut Recorder<'_, H, D, J>,
     slots: usize,
 ) -> Result<usize, AllocError> {
-    let host = recorder.host();
-    let mut wanted = HashSet::new(alloc);
-    for cube in host.cubes() {
-        let given = given_of(alloc, host, cube)?;
-        want(alloc, &mut wanted, given.as_deref().unwrap_or(&[]))?;
-    }
+    let wanted = wanted_of(alloc, recorder.host())?;
     let mut joint = Joint::new(alloc, wanted, slots);
-    for place in 0..host.cubes().len() {
-        join(rt, alloc, host, place, &mut joint, book)?;
-        recorder.record(book);
-    }
-    joint.close_nodes(book)?;
+    join_each(rt, alloc, &mut joint, book, recorder)?;
     Ok(joint.slots())
 }

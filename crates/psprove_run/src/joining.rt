@@ -15,7 +15,7 @@ use std::alloc::{AllocError, Global};
 use std::collections::{BTreeMap, HashMap, HashSet};
 
 /// The arcs of a lemma, as numbers.
-type Key = Vec<(usize, usize, i64)>;
+pub(crate) type Key = Vec<(usize, usize, i64)>;
 
 /// A lemma of the arcs of a path. One of fewer than two arcs is in no slot.
 #[derive(Drop)]
@@ -82,6 +82,28 @@ fn moved(alloc: Global, part: &CubeReplay, line: &Line) -> Result<Line, AllocErr
     }
 }
 
+/// Lines whose lemmas are in other slots of the book.
+fn all_moved(alloc: Global, part: &CubeReplay, lines: &[Line]) -> Result<Lines, AllocError> {
+    let mut there = Vec::new(alloc);
+    for line in lines {
+        there.push(moved(alloc, part, line)?)?;
+    }
+    Ok(Lines::new(there))
+}
+
+/// The lemma of a path, which follows from the lemmas of some slots.
+fn path_lemma(
+    alloc: Global,
+    slot: usize,
+    path: &[Lag],
+    uses: &[usize],
+) -> Result<Event, AllocError> {
+    let lines = uses.iter().map(|slot| Line::Use(*slot));
+    let lines = Lines::new(lines.collect(alloc)?);
+    let arcs = Lags::new(path.to_vec(alloc)?);
+    Ok(Event::Lemma { slot, arcs, lines })
+}
+
 impl Joint {
     /// Nothing was joined, and so many slots of the book are used. Searches were given lemmas of these arcs.
     pub(crate) fn new(alloc: Global, wanted: HashSet<Key>, slots: usize) -> Joint {
@@ -123,6 +145,30 @@ impl Joint {
         book.offer(Event::Drop { slot })
     }
 
+    /// The book takes a lemma of two arcs or more. In which slot, if it does.
+    fn place<J: Naming>(
+        &mut self,
+        book: &mut LemmaBook<'_, J>,
+        arcs: Lags,
+        lines: Lines,
+    ) -> Result<Option<usize>, AllocError> {
+        let slot = self.take_slot();
+        if !book.offer(Event::Lemma { slot, arcs, lines })? {
+            self.free.push(slot)?;
+            return Ok(None);
+        }
+        Ok(Some(slot))
+    }
+
+    /// The lemma of these arcs is in a slot. It stays there if searches were given it.
+    fn keep(&mut self, key: Key, slot: usize) -> Result<(), AllocError> {
+        if self.wanted.contains(&key) {
+            self.known.insert(key, slot)?;
+            self.shared.insert(slot)?;
+        }
+        Ok(())
+    }
+
     /// Takes a lemma of two arcs or more, in a slot of the log that is empty.
     fn shelve<J: Naming>(
         &mut self,
@@ -136,22 +182,12 @@ impl Joint {
             return Ok(false);
         }
         let key = key_of(self.alloc, arcs.as_slice())?;
-        let place = self.take_slot();
-        let lemma = Event::Lemma {
-            slot: place,
-            arcs,
-            lines,
-        };
-        if !book.offer(lemma)? {
-            self.free.push(place)?;
+        let Some(place) = self.place(book, arcs, lines)? else {
             return Ok(false);
-        }
+        };
         part.places.insert(slot, place)?;
         part.last = Some(place);
-        if self.wanted.contains(&key) {
-            self.known.insert(key, place)?;
-            self.shared.insert(place)?;
-        }
+        self.keep(key, place)?;
         Ok(true)
     }
 
@@ -164,11 +200,7 @@ impl Joint {
         arcs: Lags,
         lines: &Lines,
     ) -> Result<bool, AllocError> {
-        let mut there = Vec::new(self.alloc);
-        for line in lines.as_slice() {
-            there.push(moved(self.alloc, part, line)?)?;
-        }
-        let lines = Lines::new(there);
+        let lines = all_moved(self.alloc, part, lines.as_slice())?;
         if arcs.as_slice().len() > 1 {
             return self.shelve(book, part, slot, arcs, lines);
         }
@@ -233,6 +265,19 @@ impl Joint {
         Ok(())
     }
 
+    /// There is a lemma of a path.
+    fn note_closed(
+        &mut self,
+        name: &str,
+        path: &[Lag],
+        slot: Option<usize>,
+    ) -> Result<(), AllocError> {
+        let name = String::from_str(self.alloc, name)?;
+        let path = path.to_vec(self.alloc)?;
+        self.closed.insert(name, Closed { path, slot })?;
+        Ok(())
+    }
+
     /// Takes the lemma of a path, which follows from the lemmas of these slots. Whether it does.
     fn close<J: Naming>(
         &mut self,
@@ -242,24 +287,14 @@ impl Joint {
         uses: &[usize],
     ) -> Result<bool, AllocError> {
         let slot = self.take_slot();
-        let lines = uses.iter().map(|slot| Line::Use(*slot));
-        let lemma = Event::Lemma {
-            slot,
-            arcs: Lags::new(path.to_vec(self.alloc)?),
-            lines: Lines::new(lines.collect(self.alloc)?),
-        };
+        let lemma = path_lemma(self.alloc, slot, path, uses)?;
         let is_closed = book.offer(lemma)?;
         let has_slot = is_closed && path.len() > 1;
         if !has_slot {
             self.free.push(slot)?;
         }
         if is_closed {
-            let closed = Closed {
-                path: path.to_vec(self.alloc)?,
-                slot: has_slot.then_some(slot),
-            };
-            let name = String::from_str(self.alloc, name)?;
-            self.closed.insert(name, closed)?;
+            self.note_closed(name, path, has_slot.then_some(slot))?;
         }
         Ok(is_closed)
     }
@@ -318,6 +353,20 @@ impl Joint {
         Ok(names)
     }
 
+    /// The path of a node of which this is the first half, and the slots of the lemmas of both, if both are closed.
+    fn halves(&self, name: &str, half: &str) -> Result<Option<(Vec<Lag>, Vec<usize>)>, AllocError> {
+        let mut other = String::from_str(self.alloc, name)?;
+        other.push('1')?;
+        let (Some(one), Some(two)) = (self.closed.get(half), self.closed.get(other.as_str())) else {
+            return Ok(None);
+        };
+        let slots = one.slot.into_iter().chain(two.slot);
+        let uses: Vec<usize> = slots.collect(self.alloc)?;
+        let mut path = one.path.to_vec(self.alloc)?;
+        path.pop();
+        Ok(Some((path, uses)))
+    }
+
     /// Takes the lemma of the node of which this is the first half, if both are closed.
     fn close_node<J: Naming>(
         &mut self,
@@ -327,15 +376,9 @@ impl Joint {
         let Some(name) = half.strip_suffix('0') else {
             return Ok(());
         };
-        let mut other = String::from_str(self.alloc, name)?;
-        other.push('1')?;
-        let (Some(one), Some(two)) = (self.closed.get(half), self.closed.get(other.as_str())) else {
+        let Some((path, uses)) = self.halves(name, half)? else {
             return Ok(());
         };
-        let slots = one.slot.into_iter().chain(two.slot);
-        let uses: Vec<usize> = slots.collect(self.alloc)?;
-        let mut path = one.path.to_vec(self.alloc)?;
-        path.pop();
         if !self.closed.contains_key(name) {
             self.close(book, name, &path, &uses)?;
         }

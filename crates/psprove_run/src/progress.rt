@@ -63,9 +63,8 @@ impl BoardReport<'_> {
         self.starts?.last().copied()
     }
 
-    /// The line of JSON.
-    fn json(&self, alloc: Global) -> Result<String, AllocError> {
-        let mut out = String::new(alloc);
+    /// Writes the line of JSON.
+    fn put_json(&self, out: &mut String) -> Result<(), AllocError> {
         let (seconds, bound) = (self.seconds, self.bound);
         write!(out, "{{\"seconds\":{seconds},\"bound\":{bound}")?;
         if let (Some(starts), Some(makespan)) = (self.starts, self.makespan()) {
@@ -74,9 +73,15 @@ impl BoardReport<'_> {
                 out,
                 ",\"makespan\":{makespan},\"found\":\"{name}\",\"starts\":"
             )?;
-            put_starts(&mut out, starts)?;
+            put_starts(out, starts)?;
         }
-        write!(out, "}}")?;
+        out.push_str("}")
+    }
+
+    /// The line of JSON.
+    fn json(&self, alloc: Global) -> Result<String, AllocError> {
+        let mut out = String::new(alloc);
+        self.put_json(&mut out)?;
         Ok(out)
     }
 }

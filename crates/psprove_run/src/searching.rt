@@ -34,6 +34,16 @@ fn is_for_desk(event: &Event) -> bool {
     matches!(event, Event::Lemma { arcs, .. } if arcs.as_slice().len() > 1)
 }
 
+/// What a search hears from the board.
+#[derive(Drop)]
+struct Heard {
+    goes_on: bool,
+    /// Its slots that are free again.
+    free: Vec<usize>,
+    /// What others have proved.
+    news: Vec<SharedFact>,
+}
+
 /// A search, and the desk where its lemmas are proved.
 #[derive(Drop)]
 struct SearchJob<'i, 'p> {
@@ -85,6 +95,16 @@ impl SearchJob<'_, '_> {
         Ok(())
     }
 
+    /// Gives the book all that waits, once its lock is free.
+    fn deliver_all<R: Wait, J: Naming>(
+        &mut self,
+        rt: &R,
+        run: &JobContext<'_, '_, J>,
+    ) -> Result<(), AllocError> {
+        let mut board = run.board.lock(rt);
+        self.deliver(&mut board)
+    }
+
     /// Proves a lemma at the desk, once the book has the steps before it; or another event waits for the book.
     fn hand_in<R: Wait, J: Naming>(
         &mut self,
@@ -98,8 +118,7 @@ impl SearchJob<'_, '_> {
             return Ok(());
         }
         if !self.steps.is_empty() {
-            let mut board = run.board.lock(rt);
-            self.deliver(&mut board)?;
+            self.deliver_all(rt, run)?;
         }
         self.prove(event, lbd)
     }
@@ -125,18 +144,69 @@ impl SearchJob<'_, '_> {
         Ok(())
     }
 
+    /// The search and the book meet, once the book's lock is free.
+    fn meet_board<R: Wait, J: Naming>(
+        &mut self,
+        rt: &R,
+        run: &JobContext<'_, '_, J>,
+    ) -> Result<(), AllocError> {
+        let mut board = run.board.lock(rt);
+        self.meet(&mut board)
+    }
+
     /// Tells the book the best schedule and all that the search has proved.
     fn hand_in_all<R: Wait, J: Naming>(
         &mut self,
         rt: &R,
         run: &JobContext<'_, '_, J>,
     ) -> Result<(), AllocError> {
-        {
-            let mut board = run.board.lock(rt);
-            self.meet(&mut board)?;
-        }
+        self.meet_board(rt, run)?;
         for told in self.solver.events()? {
             self.hand_in(rt, run, told.event, told.lbd)?;
+        }
+        Ok(())
+    }
+
+    /// Hands in what waits, and tells what is new. What the board has for the search.
+    fn confer<R: Clock + Eprint, J: Naming>(
+        &mut self,
+        rt: &R,
+        run: &JobContext<'_, '_, J>,
+        board: &mut Board<'_, J>,
+    ) -> Result<Heard, AllocError> {
+        self.deliver(board)?;
+        board.tell(rt, run.watch, run.asked.progress)?;
+        if self.solver.state() == State::Ended {
+            board.is_over = true;
+        }
+        let goes_on = !board.is_over;
+        let free = board.free_slots(self.job);
+        let news = if self.solver.shares() {
+            board.news(self.job)?
+        } else {
+            Vec::new(self.alloc)
+        };
+        Ok(Heard {
+            goes_on,
+            free,
+            news,
+        })
+    }
+
+    /// What the board has for the search, once the board's lock is free.
+    fn hear<R: Clock + Eprint + Wait, J: Naming>(
+        &mut self,
+        rt: &R,
+        run: &JobContext<'_, '_, J>,
+    ) -> Result<Heard, AllocError> {
+        let mut board = run.board.lock(rt);
+        self.confer(rt, run, &mut board)
+    }
+
+    /// Lemmas in these slots are used no more.
+    fn release(&mut self, slots: &[usize]) -> Result<(), AllocError> {
+        for slot in slots {
+            self.solver.release(narrow(*slot))?;
         }
         Ok(())
     }
@@ -149,23 +219,12 @@ impl SearchJob<'_, '_> {
         run: &JobContext<'_, '_, J>,
     ) -> Result<bool, AllocError> {
         self.hand_in_all(rt, run)?;
-        let mut board = run.board.lock(rt);
-        self.deliver(&mut board)?;
-        board.tell(rt, run.watch, run.asked.progress)?;
-        if self.solver.state() == State::Ended {
-            board.is_over = true;
-        }
-        let goes_on = !board.is_over;
-        let free = board.free_slots(self.job);
-        let news = if self.solver.shares() {
-            board.news(self.job)?
-        } else {
-            Vec::new(self.alloc)
-        };
-        drop(board);
-        for slot in free {
-            self.solver.release(narrow(slot))?;
-        }
+        let Heard {
+            goes_on,
+            free,
+            news,
+        } = self.hear(rt, run)?;
+        self.release(&free)?;
         self.learn(news)?;
         Ok(goes_on)
     }
@@ -209,7 +268,40 @@ fn search_within<R: Clock + Eprint + Wait, J: Naming, P: Pause<J>>(
     Ok(())
 }
 
-/// A search within limits, from the schedule that the board knows.
+/// A search of a job that has done nothing yet.
+fn begun<'i, 'p, J: Naming>(
+    alloc: Global,
+    instance: &'i Instance,
+    run: &JobContext<'_, 'p, J>,
+    job: u64,
+) -> Result<SearchJob<'i, 'p>, AllocError> {
+    let desk = Desk::new(alloc, run.project)?;
+    let solver = Solver::new(instance, run.asked.limits(job, run.slots))?;
+    Ok(SearchJob {
+        alloc,
+        job: job as usize,
+        solver,
+        desk,
+        waiting: Vec::new(alloc),
+        steps: Vec::new(alloc),
+    })
+}
+
+/// A search within limits, from the schedule that the board knows. Then the board hears how it ended.
+fn search_from_board<R: Clock + Eprint + Wait, J: Naming, P: Pause<J>>(
+    rt: &R,
+    run: &JobContext<'_, '_, J>,
+    pause: &mut P,
+    searcher: &mut SearchJob<'_, '_>,
+) -> Result<(), AllocError> {
+    searcher.meet_board(rt, run)?;
+    search_within(rt, run, pause, searcher)?;
+    searcher.report(rt, run)?;
+    run.board.lock(rt).leave(&searcher.solver);
+    Ok(())
+}
+
+/// The search of a job, within limits.
 fn search<R: Clock + Eprint + Wait, J: Naming, P: Pause<J>>(
     rt: &R,
     alloc: Global,
@@ -218,22 +310,8 @@ fn search<R: Clock + Eprint + Wait, J: Naming, P: Pause<J>>(
     pause: &mut P,
 ) -> Result<(), AllocError> {
     let instance = Instance::new(alloc, run.project)?;
-    let mut searcher = SearchJob {
-        alloc,
-        job: job as usize,
-        solver: Solver::new(&instance, run.asked.limits(job, run.slots))?,
-        desk: Desk::new(alloc, run.project)?,
-        waiting: Vec::new(alloc),
-        steps: Vec::new(alloc),
-    };
-    {
-        let mut board = run.board.lock(rt);
-        searcher.meet(&mut board)?;
-    }
-    search_within(rt, run, pause, &mut searcher)?;
-    searcher.report(rt, run)?;
-    run.board.lock(rt).leave(&searcher.solver);
-    Ok(())
+    let mut searcher = begun(alloc, &instance, run, job)?;
+    search_from_board(rt, run, pause, &mut searcher)
 }
 
 /// A search within limits, one of several side by side. All end once they are asked to.
