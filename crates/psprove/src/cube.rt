@@ -184,7 +184,7 @@ fn found<'w, R: Runtime + Wait>(
     work: &'w CubeWork,
     project: &Arc<Project>,
     cube: Cube<'_>,
-    record: &RecordFile,
+    record: &RecordFile<'_>,
     heard: &Mutex<Heard>,
 ) -> Result<CubeResult, CubeFailure<'w>> {
     let host = Followed {
@@ -227,7 +227,7 @@ fn answer<'w, R: Runtime>(
 fn check_losses<'w, R: Files>(
     rt: &R,
     work: &'w CubeWork,
-    record: &RecordFile,
+    record: &RecordFile<'_>,
 ) -> Result<(), CubeFailure<'w>> {
     let more = [&work.start, &work.guide, &work.import];
     let more = more.iter().filter_map(|name| name.as_ref());
@@ -249,7 +249,7 @@ fn searched<'w, R: Runtime + Wait>(
     rt: &R,
     alloc: Global,
     work: &'w CubeWork,
-    record: &RecordFile,
+    record: &RecordFile<'_>,
     heard: &Mutex<Heard>,
 ) -> Result<u8, CubeFailure<'w>> {
     check_losses(rt, work, record)?;
@@ -302,8 +302,7 @@ pub(crate) fn search<R: Runtime + Wait>(
     work: &CubeWork,
     heard: &Mutex<Heard>,
 ) -> Result<ExitCode, AllocError> {
-    let name = String::from_str(alloc, work.record.as_str())?;
-    let record = RecordFile::of(rt, alloc, name)?;
+    let record = RecordFile::of(rt, alloc, &work.record)?;
     Ok(match searched(rt, alloc, work, &record, heard) {
         Ok(exit) => record.settle(rt, &Ended { exit, fault: None }),
         Err(stop) => refuse(rt, work, &stop),

@@ -46,7 +46,7 @@ fn perform<R: Runtime + Threads + Wait + Sync>(
     let _faults = fs::open(rt, FOLDER);
     let done = match work {
         Subcommand::Verify(call) => Ok(verify(rt, PROGRAM, alloc, RecordKind::Lemmas, &call)),
-        Subcommand::Solve(work) => search::begin(rt, alloc, work),
+        Subcommand::Solve(work) => search::begin(rt, alloc, &work),
         Subcommand::Cube(work) => cube::search(rt, alloc, &work, heard),
     };
     match done {

@@ -9,20 +9,20 @@ use std::process::ExitCode;
 
 /// The file that a record goes into.
 #[derive(Drop)]
-pub(crate) struct RecordFile {
-    name: String,
+pub(crate) struct RecordFile<'n> {
+    name: &'n String,
     /// The name of the file that grows while the search goes on. In the end it takes the name of the record, so an older
     /// record stays whole until then. None for what is no file, as a device or a pipe.
     part: Option<String>,
 }
 
-impl RecordFile {
+impl<'n> RecordFile<'n> {
     /// The file of a name.
     pub(crate) fn of<R: Files>(
         rt: &R,
         alloc: Global,
-        name: String,
-    ) -> Result<RecordFile, AllocError> {
+        name: &'n String,
+    ) -> Result<RecordFile<'n>, AllocError> {
         if fs::metadata(rt, name.as_str()).is_ok_and(|found| !found.is_file()) {
             return Ok(RecordFile { name, part: None });
         }
@@ -67,7 +67,7 @@ impl RecordFile {
 
     /// Tells that the file can't be made.
     pub(crate) fn refuse<R: Eprint>(&self, rt: &R) -> ExitCode {
-        refuse_file(rt, PROGRAM, Some(&self.name))
+        refuse_file(rt, PROGRAM, Some(self.name))
     }
 
     /// The file takes its name if the record was written whole. Otherwise it stays, with what was proved, if there is

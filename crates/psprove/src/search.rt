@@ -27,18 +27,24 @@ fn read_named<R: Files>(rt: &R, alloc: Global, name: Option<&str>) -> io::Result
     }
 }
 
+/// A copy of a name, if there is one.
+fn copy_of(alloc: Global, name: Option<&str>) -> Result<Option<String>, AllocError> {
+    match name {
+        Some(name) => Ok(Some(String::from_str(alloc, name)?)),
+        None => Ok(None),
+    }
+}
+
 /// The names of the files of a search whose record is in this file.
 fn names_of(
     alloc: Global,
-    start: Option<String>,
-    record: Option<&RecordFile>,
+    start: Option<&str>,
+    record: Option<&RecordFile<'_>>,
 ) -> Result<FileNames, AllocError> {
-    let record_file = match record {
-        Some(record) => Some(String::from_str(alloc, record.first_name())?),
-        None => None,
-    };
+    let record_file = copy_of(alloc, record.map(|record| record.first_name()))?;
+    let second = copy_of(alloc, start)?;
     Ok(FileNames {
-        second: start,
+        second,
         record_file,
     })
 }
@@ -73,7 +79,7 @@ fn search<I: Input, R: Runtime + Threads + Wait + Sync>(
 /// Whether the record is in a file that it reads: then that is told.
 fn refuse_losses<R: Runtime>(
     rt: &R,
-    record: Option<&RecordFile>,
+    record: Option<&RecordFile<'_>>,
     names: &FileNames,
     resume: Option<&str>,
 ) -> Option<ExitCode> {
@@ -92,7 +98,7 @@ fn refuse_losses<R: Runtime>(
 fn refuse_open<R: Runtime>(
     rt: &R,
     names: &FileNames,
-    record: Option<&RecordFile>,
+    record: Option<&RecordFile<'_>>,
     fault: FileFault,
 ) -> ExitCode {
     match record {
@@ -155,53 +161,67 @@ fn search_input<R: Runtime + Threads + Wait + Sync>(
     }
 }
 
+/// What a search reads beside its project; or what was told, with its exit status.
+fn read_beside<'w, R: Runtime>(
+    rt: &'w R,
+    alloc: Global,
+    work: &'w SolveCall,
+) -> Result<Result<FilesBeside<'w, 'w, R>, ExitCode>, AllocError> {
+    let resumed = match read_named(rt, alloc, work.resume.as_deref()) {
+        Ok(bytes) => bytes,
+        Err(error) if error.kind() == ErrorKind::OutOfMemory => return Err(AllocError),
+        Err(_) => return Ok(Err(refuse_file(rt, PROGRAM, work.resume.as_ref()))),
+    };
+    let cubes = match listed(rt, alloc, work.tree.as_ref())? {
+        Ok(cubes) => cubes,
+        Err(status) => return Ok(Err(status)),
+    };
+    Ok(Ok(FilesBeside {
+        rt,
+        until: work.until.as_deref(),
+        resumed,
+        cubes,
+        folder: folder_of(work.tree.as_deref().unwrap_or("")),
+    }))
+}
+
+/// Searches, and tells how that ended. The record has its name then, if it is whole.
+fn searched<R: Runtime + Threads + Wait + Sync>(
+    rt: &R,
+    alloc: Global,
+    work: &SolveCall,
+    names: &FileNames,
+    record: Option<&RecordFile<'_>>,
+) -> Result<ExitCode, AllocError> {
+    let host = match read_beside(rt, alloc, work)? {
+        Ok(host) => host,
+        Err(status) => return Ok(status),
+    };
+    let ended = match search_input(rt, alloc, work.asked, names, &host, work.project.as_ref()) {
+        Ok(Ok(ended)) => ended,
+        Ok(Err(fault)) => return Ok(refuse_open(rt, names, record, fault)),
+        Err(status) => return Ok(status),
+    };
+    let status = report(rt, PROGRAM, &ended);
+    Ok(match record {
+        Some(record) => record.settle(rt, &ended),
+        None => status,
+    })
+}
+
 /// Does what a search is asked for.
 pub(crate) fn begin<R: Runtime + Threads + Wait + Sync>(
     rt: &R,
     alloc: Global,
-    work: SolveCall,
+    work: &SolveCall,
 ) -> Result<ExitCode, AllocError> {
-    let SolveCall {
-        asked,
-        start,
-        resume,
-        record,
-        until,
-        project,
-        tree,
-    } = work;
-    let record = match record {
+    let record = match &work.record {
         Some(name) => Some(RecordFile::of(rt, alloc, name)?),
         None => None,
     };
-    let names = names_of(alloc, start, record.as_ref())?;
-    if let Some(status) = refuse_losses(rt, record.as_ref(), &names, resume.as_deref()) {
-        return Ok(status);
+    let names = names_of(alloc, work.start.as_deref(), record.as_ref())?;
+    match refuse_losses(rt, record.as_ref(), &names, work.resume.as_deref()) {
+        Some(status) => Ok(status),
+        None => searched(rt, alloc, work, &names, record.as_ref()),
     }
-    let resumed = match read_named(rt, alloc, resume.as_deref()) {
-        Ok(bytes) => bytes,
-        Err(error) if error.kind() == ErrorKind::OutOfMemory => return Err(AllocError),
-        Err(_) => return Ok(refuse_file(rt, PROGRAM, resume.as_ref())),
-    };
-    let cubes = match listed(rt, alloc, tree.as_ref())? {
-        Ok(cubes) => cubes,
-        Err(status) => return Ok(status),
-    };
-    let host = FilesBeside {
-        rt,
-        until: until.as_deref(),
-        resumed,
-        cubes,
-        folder: folder_of(tree.as_deref().unwrap_or("")),
-    };
-    let ended = match search_input(rt, alloc, asked, &names, &host, project.as_ref()) {
-        Ok(Ok(ended)) => ended,
-        Ok(Err(fault)) => return Ok(refuse_open(rt, &names, record.as_ref(), fault)),
-        Err(status) => return Ok(status),
-    };
-    let status = report(rt, PROGRAM, &ended);
-    Ok(match &record {
-        Some(record) => record.settle(rt, &ended),
-        None => status,
-    })
 }
