@@ -94,7 +94,7 @@ fn gather<L: Ledger, S: Ledger>(
             ..
         } = desk;
         all.merge(share);
-        tallies.push(Tally { accepted, ahead })?;
+        tallies.push_reserved(Tally { accepted, ahead });
     }
     Ok((tallies, all))
 }
