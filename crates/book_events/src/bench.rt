@@ -1,8 +1,9 @@
 //! Measures the search book: one worker searches a project until so many nodes are open.
 
+use crate::report_on;
 use anyhow::bail;
-use book::{Book, Take};
-use branching::{expand, rebuild};
+use book::{Book, Take, Ticket};
+use branching::Report;
 use network::Project;
 use plain_search::MAX_EXPANDED;
 use std::sync::Arc;
@@ -24,22 +25,48 @@ impl Spent {
     }
 }
 
-/// The worker takes a node, expands it and checks its report in. False where no node is handed out.
-fn search_once(rt: &HostRuntime, book: &mut Book, spent: &mut Spent) -> anyhow::Result<bool> {
+/// Takes a node for the worker.
+fn take(rt: &HostRuntime, book: &mut Book, spent: &mut Spent) -> anyhow::Result<Take> {
     let start = Instant::now(rt)?;
     let answer = book.take(0);
     spent.takes = spent.takes.saturating_add(start.elapsed(rt)?);
-    let Take::Ticket(ticket) = answer else {
-        return Ok(false);
-    };
-    let node = rebuild(rt.alloc(), &ticket.node)?;
-    let report = expand(rt.alloc(), &node, ticket.ceiling)?;
+    Ok(answer)
+}
+
+/// Checks the worker's report in.
+fn check_in(
+    rt: &HostRuntime,
+    book: &mut Book,
+    spent: &mut Spent,
+    name: u64,
+    report: Report,
+) -> anyhow::Result<()> {
     let start = Instant::now(rt)?;
-    let answer = book.check_in(ticket.name, report);
+    let is_accepted = book.check_in(name, report).is_ok();
     spent.check_ins = spent.check_ins.saturating_add(start.elapsed(rt)?);
-    if answer.is_err() {
+    if !is_accepted {
         bail!("a report was refused");
     }
+    Ok(())
+}
+
+/// Expands a node that was taken, and checks the report on it in.
+fn work_on(
+    rt: &HostRuntime,
+    book: &mut Book,
+    spent: &mut Spent,
+    ticket: &Ticket,
+) -> anyhow::Result<()> {
+    let report = report_on(rt.alloc(), &ticket.node, ticket.ceiling)?;
+    check_in(rt, book, spent, ticket.name, report)
+}
+
+/// The worker takes a node, expands it and checks its report in. False where no node is handed out.
+fn search_once(rt: &HostRuntime, book: &mut Book, spent: &mut Spent) -> anyhow::Result<bool> {
+    let Take::Ticket(ticket) = take(rt, book, spent)? else {
+        return Ok(false);
+    };
+    work_on(rt, book, spent, &ticket)?;
     Ok(true)
 }
 
@@ -81,6 +108,22 @@ fn print_counts(rt: &HostRuntime, book: &Book) -> anyhow::Result<()> {
     Ok(())
 }
 
+/// Fills a book, and then measures the calls of `rounds` nodes, if there are any. Prints the counts after each of these.
+fn fill_and_measure(
+    rt: &HostRuntime,
+    book: &mut Book,
+    nodes: &str,
+    rounds: Option<&str>,
+) -> anyhow::Result<()> {
+    fill(rt, book, nodes.parse::<u64>()?)?;
+    print_counts(rt, book)?;
+    if let Some(rounds) = rounds {
+        measure(rt, book, rounds.parse::<u64>()?)?;
+        print_counts(rt, book)?;
+    }
+    Ok(())
+}
+
 /// Fills a book of the project. With `rounds` it then measures the calls of so many nodes. It prints the counts of the book,
 /// and the mean nanoseconds of a take and of a check-in.
 pub(crate) fn bench(
@@ -89,14 +132,8 @@ pub(crate) fn bench(
     nodes: &str,
     rounds: Option<&str>,
 ) -> anyhow::Result<()> {
-    let Ok(mut book) = Book::open(rt.alloc(), project, 1, MAX_EXPANDED) else {
-        bail!("the book can't be opened");
-    };
-    fill(rt, &mut book, nodes.parse::<u64>()?)?;
-    print_counts(rt, &book)?;
-    if let Some(rounds) = rounds {
-        measure(rt, &mut book, rounds.parse::<u64>()?)?;
-        print_counts(rt, &book)?;
+    match Book::open(rt.alloc(), project, 1, MAX_EXPANDED) {
+        Ok(mut book) => fill_and_measure(rt, &mut book, nodes, rounds),
+        Err(_) => bail!("the book can't be opened"),
     }
-    Ok(())
 }

@@ -36,7 +36,7 @@ use network::{Project, Schedule};
 use replies::{accepted_text, pairs_text, reply_text, starts_text, take_text, told, verdict_text};
 use sch_reader::read_sch;
 use schedule_check::{accept, read_starts};
-use std::alloc::Global;
+use std::alloc::{AllocError, Global};
 use std::io::Read;
 use std::sync::Arc;
 use std::{env, mem};
@@ -96,14 +96,23 @@ fn smallest(alloc: Global, project: &Arc<Project>) -> anyhow::Result<Book> {
 }
 
 /// The report on a node.
-fn report_on(
+pub(crate) fn report_on(
+    alloc: Global,
+    node: &Arc<OpenNode>,
+    ceiling: Option<i64>,
+) -> Result<Report, AllocError> {
+    expand(alloc, &rebuild(alloc, node)?, ceiling)
+}
+
+/// The report on the node of a number.
+fn report_at(
     alloc: Global,
     nodes: &[Arc<OpenNode>],
     place: &str,
     ceiling: Option<i64>,
 ) -> anyhow::Result<Report> {
     let node = nodes.get(place.parse::<usize>()?).context("no such node")?;
-    Ok(expand(alloc, &rebuild(alloc, node)?, ceiling)?)
+    Ok(report_on(alloc, node, ceiling)?)
 }
 
 /// The schedule of these starts, with commas between.
@@ -130,7 +139,7 @@ fn check_in(alloc: Global, nodes: &[Arc<OpenNode>], rest: &str) -> anyhow::Resul
     } else {
         Some(ceiling.parse::<i64>()?)
     };
-    let report = report_on(alloc, nodes, node, ceiling)?;
+    let report = report_at(alloc, nodes, node, ceiling)?;
     Ok((name.parse::<u64>()?, report))
 }
 
@@ -151,22 +160,37 @@ fn event_of(alloc: Global, table: &EventPlayer, kind: &str, rest: &str) -> anyho
     }
 }
 
-/// Expands a node, prints what comes of it, and keeps its children.
-fn explore(rt: &HostRuntime, table: &mut EventPlayer, place: &str) -> anyhow::Result<()> {
-    let alloc = rt.alloc();
-    let report = report_on(alloc, &table.nodes, place, None)?;
-    let (pairs, bound) = (pairs_text(alloc, report.node())?, report.node().bound());
-    println!(rt; "node {bound}{pairs}")?;
+/// Prints the bound and the pairs of a node, after a word.
+fn print_node(rt: &HostRuntime, word: &str, node: &OpenNode) -> anyhow::Result<()> {
+    let (pairs, bound) = (pairs_text(rt.alloc(), node)?, node.bound());
+    println!(rt; "{word} {bound}{pairs}")?;
+    Ok(())
+}
+
+/// Prints the starts that an expansion found.
+fn print_found(rt: &HostRuntime, found: &Schedule) -> anyhow::Result<()> {
+    let starts = starts_text(rt.alloc(), found.starts())?;
+    println!(rt; "found {starts}")?;
+    Ok(())
+}
+
+/// Prints what came of an expansion, and keeps the children.
+fn keep(rt: &HostRuntime, nodes: &mut Vec<Arc<OpenNode>>, report: &Report) -> anyhow::Result<()> {
+    print_node(rt, "node", report.node())?;
     if let Some(found) = report.found() {
-        let starts = starts_text(alloc, found.starts())?;
-        println!(rt; "found {starts}")?;
+        print_found(rt, found)?;
     }
     for child in report.children() {
-        let (pairs, bound) = (pairs_text(alloc, child)?, child.bound());
-        println!(rt; "kid {bound}{pairs}")?;
-        table.nodes.push(Arc::try_clone(child)?)?;
+        print_node(rt, "kid", child)?;
+        nodes.push(Arc::try_clone(child)?)?;
     }
     Ok(())
+}
+
+/// Expands a node, prints what comes of it, and keeps its children.
+fn explore(rt: &HostRuntime, nodes: &mut Vec<Arc<OpenNode>>, place: &str) -> anyhow::Result<()> {
+    let report = report_at(rt.alloc(), nodes, place, None)?;
+    keep(rt, nodes, &report)
 }
 
 /// The least starts of a node.
@@ -185,9 +209,10 @@ fn replied(alloc: Global, book: &mut Book, event: Request) -> anyhow::Result<Str
     Ok(reply_text(alloc, reply)?)
 }
 
-/// What a book says to a report whose lists are to come back.
-fn reused(alloc: Global, book: &mut Book, name: u64, report: Report) -> anyhow::Result<String> {
-    match book.check_in_for_reuse(name, report) {
+/// What the table's book says to a report whose lists are to come back.
+fn reused(alloc: Global, table: &mut EventPlayer, rest: &str) -> anyhow::Result<String> {
+    let (name, report) = check_in(alloc, &table.nodes, rest)?;
+    match table.book.check_in_for_reuse(name, report) {
         Ok((done, made)) => {
             let (children, fates) = (made.children.len(), made.fates.len());
             let done = accepted_text(alloc, &done)?;
@@ -204,12 +229,29 @@ fn searched(alloc: Global, book: &mut Book) -> anyhow::Result<Take> {
             Take::Ticket(ticket) => ticket,
             told => return Ok(told),
         };
-        let report = expand(alloc, &rebuild(alloc, &ticket.node)?, ticket.ceiling)?;
+        let report = report_on(alloc, &ticket.node, ticket.ceiling)?;
         if book.check_in(ticket.name, report).is_err() {
             bail!("a report is refused");
         }
     }
     bail!("the search goes on and on")
+}
+
+/// What worker 0 is told at the end of a search.
+fn search(alloc: Global, book: &mut Book) -> anyhow::Result<String> {
+    let told = searched(alloc, book)?;
+    Ok(take_text(alloc, &told)?)
+}
+
+/// What the table's book replies to the event that a step asks for.
+fn played(
+    alloc: Global,
+    table: &mut EventPlayer,
+    kind: &str,
+    rest: &str,
+) -> anyhow::Result<String> {
+    let event = event_of(alloc, table, kind, rest)?;
+    replied(alloc, &mut table.book, event)
 }
 
 /// Opens the book that a step asks for, in the place of the table's: whether it is within the limits.
@@ -257,17 +299,11 @@ fn answered(
     match kind {
         "starts" => least(alloc, &table.nodes, rest),
         "open" | "record" => Ok(String::from_str(alloc, open(alloc, table, kind, rest)?)?),
-        "search" => Ok(take_text(alloc, &searched(alloc, &mut table.book)?)?),
+        "search" => search(alloc, &mut table.book),
         "best" | "verdict" | "trail" => asked(alloc, &table.book, kind),
         "close" => closed(alloc, table),
-        "reuse" => {
-            let (name, report) = check_in(alloc, &table.nodes, rest)?;
-            reused(alloc, &mut table.book, name, report)
-        }
-        _ => {
-            let event = event_of(alloc, table, kind, rest)?;
-            replied(alloc, &mut table.book, event)
-        }
+        "reuse" => reused(alloc, table, rest),
+        _ => played(alloc, table, kind, rest),
     }
 }
 
@@ -275,7 +311,7 @@ fn answered(
 fn step(rt: &HostRuntime, table: &mut EventPlayer, word: &str) -> anyhow::Result<()> {
     let (kind, rest) = word.split_once(':').unwrap_or((word, ""));
     if kind == "expand" {
-        return explore(rt, table, rest);
+        return explore(rt, &mut table.nodes, rest);
     }
     let reply = answered(rt.alloc(), table, kind, rest)?;
     let told = told(rt.alloc(), &table.book)?;
@@ -283,25 +319,40 @@ fn step(rt: &HostRuntime, table: &mut EventPlayer, word: &str) -> anyhow::Result
     Ok(())
 }
 
-/// Plays the words on a book of the first of two projects.
-fn play(rt: &HostRuntime, text: &[u8], words: &[String]) -> anyhow::Result<()> {
-    let alloc = rt.alloc();
+/// Two projects, with a semicolon between.
+fn both_projects(alloc: Global, text: &[u8]) -> anyhow::Result<[Arc<Project>; 2]> {
     let (own, other) = split_once(text, b';').context("there is one project")?;
-    let (own, other) = (project(alloc, own)?, project(alloc, other)?);
+    let own = project(alloc, own)?;
+    Ok([own, project(alloc, other)?])
+}
+
+/// The roots of projects, of those that have one.
+fn roots_of(alloc: Global, projects: &[Arc<Project>]) -> anyhow::Result<Vec<Arc<OpenNode>>> {
     let mut nodes = Vec::new(alloc);
-    for project in [&own, &other] {
+    for project in projects {
         if let Some(root) = root_of(alloc, project)? {
             nodes.push(root)?;
         }
     }
-    let book = smallest(alloc, &own)?;
-    let mut table = EventPlayer {
-        projects: [own, other],
+    Ok(nodes)
+}
+
+/// The roots of two projects, and a book of the first.
+fn table_of(alloc: Global, text: &[u8]) -> anyhow::Result<EventPlayer> {
+    let projects = both_projects(alloc, text)?;
+    let nodes = roots_of(alloc, &projects)?;
+    let book = smallest(alloc, &projects[0])?;
+    Ok(EventPlayer {
+        projects,
         nodes,
         book,
-    };
+    })
+}
+
+/// Plays the words on a table.
+fn play(rt: &HostRuntime, table: &mut EventPlayer, words: &[String]) -> anyhow::Result<()> {
     for word in words {
-        step(rt, &mut table, word)?;
+        step(rt, table, word)?;
     }
     Ok(())
 }
@@ -316,7 +367,7 @@ fn main(rt: HostRuntime) -> anyhow::Result<()> {
             let rounds = rounds.first().map(|word| word.as_str());
             bench(&rt, project(alloc, &text)?, nodes, rounds)
         }
-        [_, words @ ..] => play(&rt, &text, words),
+        [_, words @ ..] => play(&rt, &mut table_of(alloc, &text)?, words),
         [] => bail!("there is no name"),
     }
 }
