@@ -23,7 +23,7 @@ fn told(alloc: Global, matrix: &Matrix) -> Result<String, AllocError> {
 }
 
 /// What is done to a matrix.
-#[derive(Drop)]
+#[derive(Clone, Copy)]
 enum Step {
     Insert(usize, usize, i64),
     Mark,
@@ -44,35 +44,56 @@ fn insert(
     marked.insert(i, j, w)
 }
 
-/// Does a step, and says what the matrix is then, after the fault if there was one.
-fn play(
-    rt: &impl Abort,
-    alloc: Global,
-    marked: &mut MarkedMatrix,
-    step: &Step,
-) -> Result<String, Fail> {
-    let mut text = String::new(alloc);
+/// Does a step: the fault of an arc that makes a positive cycle, if it does.
+fn play(rt: &impl Abort, marked: &mut MarkedMatrix, step: Step) -> Result<Option<PathFault>, Fail> {
     match step {
-        Step::Insert(i, j, w) => match insert(rt, marked, *i, *j, *w) {
-            Ok(()) => {}
-            Err(PathFault::Memory) => return Err(Fail::from(AllocError)),
-            Err(fault) => write!(text, "{fault:?} ")?,
+        Step::Insert(i, j, w) => match insert(rt, marked, i, j, w) {
+            Ok(()) => Ok(None),
+            Err(PathFault::Memory) => Err(Fail::from(AllocError)),
+            Err(fault) => Ok(Some(fault)),
         },
-        Step::Mark => marked.mark()?,
+        Step::Mark => {
+            marked.mark()?;
+            Ok(None)
+        }
         Step::Back => {
             assert!(rt; marked.mark_count() > 0);
             marked.go_back();
+            Ok(None)
         }
     }
-    text.push_str(told(alloc, marked.matrix())?.as_str())?;
-    Ok(text)
 }
 
-#[test]
-fn arcs_are_inserted_and_taken_back(rt: HostRuntime) -> Result<(), Fail> {
-    let matrix = longest(rt.alloc(), &one_machine(rt.alloc(), &[])?, &[])?;
-    let mut marked = MarkedMatrix::new(rt.alloc(), matrix);
-    for (does, wanted) in [
+/// A matrix as text, behind a fault if there was one.
+fn told_after(
+    alloc: Global,
+    fault: Option<PathFault>,
+    matrix: &Matrix,
+) -> Result<String, AllocError> {
+    let entries = told(alloc, matrix)?;
+    match fault {
+        Some(fault) => format!(in alloc; "{fault:?} {entries}"),
+        None => Ok(entries),
+    }
+}
+
+/// Does a step, and looks at what the matrix is then.
+fn assert_step(
+    rt: &impl Abort,
+    alloc: Global,
+    marked: &mut MarkedMatrix,
+    step: Step,
+    wanted: &str,
+) -> Result<(), Fail> {
+    let fault = play(rt, marked, step)?;
+    let found = told_after(alloc, fault, marked.matrix())?;
+    assert_eq!(rt; found.as_str(), wanted);
+    Ok(())
+}
+
+/// Does steps to the matrix of two activities, and looks at it after each.
+fn plays(rt: &impl Abort, alloc: Global, marked: &mut MarkedMatrix) -> Result<(), Fail> {
+    for (step, wanted) in [
         (Step::Mark, "/ 0 0 0 4/ - 0 - 3/ - - 0 4/ - - - 0"),
         (
             Step::Insert(1, 2, 3),
@@ -94,8 +115,14 @@ fn arcs_are_inserted_and_taken_back(rt: HostRuntime) -> Result<(), Fail> {
         (Step::Back, "/ 0 0 3 7/ - 0 3 7/ - - 0 4/ - - - 0"),
         (Step::Back, "/ 0 0 0 4/ - 0 - 3/ - - 0 4/ - - - 0"),
     ] {
-        let found = play(&rt, rt.alloc(), &mut marked, &does)?;
-        assert_eq!(rt; found.as_str(), wanted);
+        assert_step(rt, alloc, marked, step, wanted)?;
     }
     Ok(())
+}
+
+#[test]
+fn arcs_are_inserted_and_taken_back(rt: HostRuntime) -> Result<(), Fail> {
+    let matrix = longest(rt.alloc(), &one_machine(rt.alloc(), &[])?, &[])?;
+    let mut marked = MarkedMatrix::new(rt.alloc(), matrix);
+    plays(&rt, rt.alloc(), &mut marked)
 }

@@ -134,14 +134,27 @@ fn assert_first(
     Ok(())
 }
 
-/// The same for two lists of starts of a project of the dice, by one sweep.
+/// The same for two lists of starts by the dice, by one sweep.
+fn assert_two(
+    rt: &impl Abort,
+    alloc: Global,
+    dice: &mut Dice,
+    sweep: &mut OverloadSweep,
+    project: &Project,
+) -> Result<(), Fail>
+    requires { IsSweepFor project.now sweep.old }
+{
+    let starts = amounts(dice, 12);
+    assert_first(rt, alloc, sweep, project, &starts)?;
+    let starts = amounts(dice, 12);
+    assert_first(rt, alloc, sweep, project, &starts)
+}
+
+/// The same for a project of the dice.
 fn assert_by_dice(rt: &impl Abort, alloc: Global, dice: &mut Dice) -> Result<(), Fail> {
     let project = seeded_project(alloc, dice)?;
     let mut sweep = OverloadSweep::new(alloc, &project)?;
-    let starts = amounts(dice, 12);
-    assert_first(rt, alloc, &mut sweep, &project, &starts)?;
-    let starts = amounts(dice, 12);
-    assert_first(rt, alloc, &mut sweep, &project, &starts)
+    assert_two(rt, alloc, dice, &mut sweep, &project)
 }
 
 #[test]

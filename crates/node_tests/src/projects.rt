@@ -4,7 +4,7 @@ ghost use Rattle.std.specs.Prelude.{◌≡◌, IsTrue};
 ghost use Rattle.network.specs.Problem.{AreStarts};
 
 use network::{Lag, MAX_START, Pair, Parts, Project};
-use std::alloc::Global;
+use std::alloc::{AllocError, Global};
 use std::test::Fail;
 
 /// An arc.
@@ -31,20 +31,39 @@ pub fn are_starts(project: &Project, starts: &[i64]) -> bool
             .all(|start| -MAX_START <= *start && *start <= MAX_START)
 }
 
-fn of_rows(
+/// The lists of a project, without a row of demands.
+fn lists(
     alloc: Global,
     durations: &[i64],
-    rows: Vec<Vec<i64>>,
     capacities: &[i64],
     lags: &[Lag],
-) -> Result<Project, Fail> {
-    let parts = Parts {
-        durations: Vec::from_slice(alloc, durations)?,
-        demands: rows,
-        capacities: Vec::from_slice(alloc, capacities)?,
+) -> Result<Parts, AllocError> {
+    let durations = Vec::from_slice(alloc, durations)?;
+    let capacities = Vec::from_slice(alloc, capacities)?;
+    Ok(Parts {
+        durations,
+        demands: Vec::new(alloc),
+        capacities,
         lags: Vec::from_slice(alloc, lags)?,
-    };
-    Ok(Project::new(parts)?)
+    })
+}
+
+/// Rows of demands.
+fn rows_of(alloc: Global, demands: &[&[i64]]) -> Result<Vec<Vec<i64>>, AllocError> {
+    let mut rows = Vec::new(alloc);
+    for row in demands {
+        rows.push(Vec::from_slice(alloc, row)?)?;
+    }
+    Ok(rows)
+}
+
+/// Rows of one demand each.
+fn rows_of_one(alloc: Global, demands: &[i64]) -> Result<Vec<Vec<i64>>, AllocError> {
+    let mut rows = Vec::new(alloc);
+    for demand in demands {
+        rows.push(vec![in alloc; *demand]?)?;
+    }
+    Ok(rows)
 }
 
 /// The project of these lists, with a row of demands for each activity.
@@ -55,11 +74,9 @@ pub fn project(
     capacities: &[i64],
     lags: &[Lag],
 ) -> Result<Project, Fail> {
-    let mut rows = Vec::new(alloc);
-    for row in demands {
-        rows.push(Vec::from_slice(alloc, row)?)?;
-    }
-    of_rows(alloc, durations, rows, capacities, lags)
+    let mut parts = lists(alloc, durations, capacities, lags)?;
+    parts.demands = rows_of(alloc, demands)?;
+    Ok(Project::new(parts)?)
 }
 
 /// A project with one resource.
@@ -70,11 +87,9 @@ pub fn with_one_resource(
     capacity: i64,
     lags: &[Lag],
 ) -> Result<Project, Fail> {
-    let mut rows = Vec::new(alloc);
-    for demand in demands {
-        rows.push(vec![in alloc; *demand]?)?;
-    }
-    of_rows(alloc, durations, rows, &[capacity], lags)
+    let mut parts = lists(alloc, durations, &[capacity], lags)?;
+    parts.demands = rows_of_one(alloc, demands)?;
+    Ok(Project::new(parts)?)
 }
 
 /// Two activities of 3 and 4 periods that ask for the one unit of a resource.

@@ -75,8 +75,31 @@ fn plain_energy(project: &Project, heads: &[i64], tails: &[i64]) -> u64 {
     greatest
 }
 
-/// The critical weight, the energy value and the bound with pairs, none where a closed walk has positive
-/// weight. The energy value has to be that of the plain loops.
+/// The energy value of a matrix by plain loops.
+fn energy_by_loops(alloc: Global, project: &Project, matrix: &Matrix) -> Result<u64, AllocError>
+    requires { IsMatrixFor project.now matrix.now }
+{
+    let heads = heads(alloc, matrix)?;
+    let tails = tails(alloc, project, matrix)?;
+    Ok(plain_energy(project, &heads, &tails))
+}
+
+/// The critical weight, the energy value and the bound of a matrix. The energy value has to be that of the plain loops.
+fn values_of(
+    rt: &impl Abort,
+    alloc: Global,
+    project: &Project,
+    matrix: &Matrix,
+) -> Result<[i64; 3], Fail>
+    requires { IsMatrixFor project.now matrix.now }
+{
+    let by_loops = energy_by_loops(alloc, project, matrix)?;
+    let energy = energy(alloc, project, matrix)?;
+    assert_eq!(rt; energy.unsigned_abs(), by_loops);
+    Ok([critical(matrix), energy, bound(alloc, project, matrix)?])
+}
+
+/// The values with pairs, none where a closed walk has positive weight.
 fn values(
     rt: &impl Abort,
     alloc: Global,
@@ -84,20 +107,50 @@ fn values(
     pairs: &[Pair],
 ) -> Result<Option<[i64; 3]>, Fail> {
     assert!(rt; are_named(project, pairs));
-    let matrix = match matrix_of(alloc, project, pairs) {
-        Ok(matrix) => matrix,
-        Err(PathFault::PositiveCycle { at: _ }) => return Ok(None),
-        Err(PathFault::Memory) => return Err(Fail::from(AllocError)),
-    };
-    let heads = heads(alloc, &matrix)?;
-    let tails = tails(alloc, project, &matrix)?;
-    let energy = energy(alloc, project, &matrix)?;
-    assert_eq!(rt;
-        energy.unsigned_abs(),
-        plain_energy(project, &heads, &tails)
-    );
-    let bound = bound(alloc, project, &matrix)?;
-    Ok(Some([critical(&matrix), energy, bound]))
+    match matrix_of(alloc, project, pairs) {
+        Ok(matrix) => Ok(Some(values_of(rt, alloc, project, &matrix)?)),
+        Err(PathFault::PositiveCycle { at: _ }) => Ok(None),
+        Err(PathFault::Memory) => Err(Fail::from(AllocError)),
+    }
+}
+
+/// The project of a name.
+fn project_of(alloc: Global, name: &str) -> Result<Project, Fail> {
+    match name {
+        "two between" => two_between(alloc),
+        "three on two" => three_on_two(alloc),
+        "no capacity" => with_one_resource(alloc, &[0, 1, 0], &[0, 0, 0], 0, &[]),
+        _ => one_machine(alloc, &[]),
+    }
+}
+
+/// That a project has these values with pairs.
+fn assert_values(
+    rt: &impl Abort,
+    alloc: Global,
+    project: &Project,
+    pairs: &[Pair],
+    wanted: [i64; 3],
+) -> Result<(), Fail> {
+    assert_eq!(rt; values(rt, alloc, project, pairs)?, Some(wanted));
+    Ok(())
+}
+
+/// That the project of a name has these values with a pair, and with another that adds nothing.
+fn assert_row(
+    rt: &impl Abort,
+    alloc: Global,
+    name: &str,
+    none: Pair,
+    pair: Pair,
+    wanted: [i64; 3],
+) -> Result<(), Fail> {
+    let project = project_of(alloc, name)?;
+    if pair == none {
+        assert_values(rt, alloc, &project, &[], wanted)?;
+    }
+    assert_values(rt, alloc, &project, &[pair], wanted)?;
+    assert_values(rt, alloc, &project, &[none, pair], wanted)
 }
 
 #[test]
@@ -105,24 +158,16 @@ fn bounds_of_projects(rt: HostRuntime) -> Result<(), Fail> {
     let alloc = rt.alloc();
     // The first pair adds nothing: each activity starts with the start or later.
     let none = pair(0, 1);
-    for (project, pair, wanted) in [
-        (two_between(alloc)?, none, [12, 16, 16]),
-        (one_machine(alloc, &[])?, none, [4, 7, 7]),
-        (one_machine(alloc, &[])?, pair(1, 2), [7, 7, 7]),
-        (three_on_two(alloc)?, none, [2, 3, 3]),
-        (three_on_two(alloc)?, pair(3, 1), [4, 4, 4]),
+    for (name, pair, wanted) in [
+        ("two between", none, [12, 16, 16]),
+        ("one machine", none, [4, 7, 7]),
+        ("one machine", pair(1, 2), [7, 7, 7]),
+        ("three on two", none, [2, 3, 3]),
+        ("three on two", pair(3, 1), [4, 4, 4]),
         // Without a capacity there is no work.
-        (
-            with_one_resource(alloc, &[0, 1, 0], &[0, 0, 0], 0, &[])?,
-            none,
-            [1, 0, 1],
-        ),
+        ("no capacity", none, [1, 0, 1]),
     ] {
-        if pair == none {
-            assert_eq!(rt; values(&rt, alloc, &project, &[])?, Some(wanted));
-        }
-        assert_eq!(rt; values(&rt, alloc, &project, &[pair])?, Some(wanted));
-        assert_eq!(rt; values(&rt, alloc, &project, &[none, pair])?, Some(wanted));
+        assert_row(&rt, alloc, name, none, pair, wanted)?;
     }
     Ok(())
 }
