@@ -9,7 +9,7 @@ use std::sync::Arc;
 use std::test::Fail;
 
 /// What the words of a row ask for, with a semicolon between.
-#[derive(Drop)]
+#[derive(Clone, Copy)]
 pub(super) struct WorkerRow<'a> {
     pub(super) project: &'a str,
     pub(super) workers: usize,
@@ -72,19 +72,24 @@ pub(super) fn project_of(alloc: Global, name: &str) -> Result<Project, Fail> {
     }
 }
 
+/// The starts of a text, with blanks between.
+fn read_starts(alloc: Global, text: &str) -> Result<Vec<i64>, Fail> {
+    let mut starts = Vec::new(alloc);
+    for start in text.split(' ') {
+        starts.push(start.parse::<i64>()?)?;
+    }
+    Ok(starts)
+}
+
 /// The schedule of one machine of these starts, with blanks between; none without starts.
 pub(super) fn schedule_of(alloc: Global, text: &str) -> Result<Option<Schedule>, Fail> {
     if text.is_empty() {
         return Ok(None);
     }
-    let mut starts = Vec::new(alloc);
-    for start in text.split(' ') {
-        starts.push(start.parse::<i64>()?)?;
-    }
-    let project = one_machine(alloc, &[])?;
+    let project = Arc::new(alloc, one_machine(alloc, &[])?)?;
+    let starts = read_starts(alloc, text)?;
     if !are_starts(&project, &starts) {
         return Err("these are no starts".into());
     }
-    let schedule = accept(alloc, Arc::new(alloc, project)?, starts)?;
-    Ok(Some(schedule))
+    Ok(Some(accept(alloc, project, starts)?))
 }

@@ -33,12 +33,12 @@ fn searched<R: Threads + Wait + Sync>(
     asked: &WorkerRow<'_>,
     gate: &HoldingGate,
 ) -> Result<Searched, Fail> {
-    let start = schedule_of(alloc, asked.starts)?;
     let project = Arc::new(alloc, project_of(alloc, asked.project)?)?;
+    let start = schedule_of(alloc, asked.starts)?;
     let (workers, takes, recorded) = (asked.workers, asked.takes, asked.recorded);
     match search(rt, alloc, project, workers, takes, start, recorded, gate) {
         Ok((solved, trail)) => {
-            let entries = trail.map_or(0, |trail| trail.entries().len());
+            let entries = trail.as_ref().map_or(0, |trail| trail.entries().len());
             Ok(Ok((solved, entries)))
         }
         Err(fault) => Ok(Err(fault)),
@@ -84,8 +84,41 @@ pub(super) fn starts_of(best: Option<&Schedule>) -> &[i64] {
     }
 }
 
-/// What is told of the search that a row asks for. Want of memory ends the test unless the gate has none, and so does
+/// What is told of a search and its trail.
+fn solved_text(
+    alloc: Global,
+    solved: &Solved,
+    trail: usize,
+    seen: Seen,
+) -> Result<String, AllocError> {
+    let (calls, ended, gave_up, ceiling) = (seen.calls, seen.ended, seen.gave_up, seen.ceiling);
+    let (counts, workers) = (numbers(&solved.counts), solved.per_worker.len());
+    let outcome = outcome_text(alloc, &solved.outcome)?;
+    let shares = shares_text(alloc, &solved.per_worker, seen)?;
+    format!(in alloc;
+        "; {outcome}; counts {counts:?}; workers {workers}; {shares}; trail {trail}; calls {calls}; \
+        ended {ended}; gave up {gave_up}; third ceiling {ceiling};"
+    )
+}
+
+/// What is told of a search that ended with a fault. Want of memory ends the test unless the gate has none, and so does
 /// want of a thread.
+fn fault_text(alloc: Global, fault: SolveFault, holds: Holds, seen: Seen) -> Result<String, Fail> {
+    let (calls, ended, gave_up) = (seen.calls, seen.ended, seen.gave_up);
+    match fault {
+        SolveFault::Memory if !holds.lacks_memory(calls) => Err(SolveFault::Memory.into()),
+        // The other worker came to its end before the gate made its fault.
+        SolveFault::Refused(_) if matches!(holds, Holds::Fails(_)) && calls < 4 => {
+            Err(SolveFault::Memory.into())
+        }
+        SolveFault::Thread => Err(SolveFault::Thread.into()),
+        fault => Ok(format!(in alloc;
+            "; {fault:?}; calls {calls}; ended {ended}; gave up {gave_up};"
+        )?),
+    }
+}
+
+/// What is told of the search that a row asks for.
 pub(super) fn told<R: Threads + Wait + Sync>(
     rt: &R,
     alloc: Global,
@@ -93,30 +126,8 @@ pub(super) fn told<R: Threads + Wait + Sync>(
 ) -> Result<String, Fail> {
     let asked = asked_by(row)?;
     let gate = HoldingGate::new(asked.holds);
-    let searched = searched(rt, alloc, &asked, &gate)?;
-    let seen = gate.seen();
-    let (calls, ended, gave_up, ceiling) = (seen.calls, seen.ended, seen.gave_up, seen.ceiling);
-    let (solved, trail) = match searched {
-        Ok(found) => found,
-        Err(SolveFault::Memory) if !asked.holds.lacks_memory(calls) => {
-            return Err(SolveFault::Memory.into());
-        }
-        // The other worker came to its end before the gate made its fault.
-        Err(SolveFault::Refused(_)) if matches!(asked.holds, Holds::Fails(_)) && calls < 4 => {
-            return Err(SolveFault::Memory.into());
-        }
-        Err(SolveFault::Thread) => return Err(SolveFault::Thread.into()),
-        Err(fault) => {
-            return Ok(format!(in alloc;
-                "; {fault:?}; calls {calls}; ended {ended}; gave up {gave_up};"
-            )?);
-        }
-    };
-    let (counts, workers) = (numbers(&solved.counts), solved.per_worker.len());
-    let outcome = outcome_text(alloc, &solved.outcome)?;
-    let shares = shares_text(alloc, &solved.per_worker, seen)?;
-    Ok(format!(in alloc;
-        "; {outcome}; counts {counts:?}; workers {workers}; {shares}; trail {trail}; calls {calls}; \
-        ended {ended}; gave up {gave_up}; third ceiling {ceiling};"
-    )?)
+    match searched(rt, alloc, &asked, &gate)? {
+        Ok((solved, trail)) => Ok(solved_text(alloc, &solved, trail, gate.seen())?),
+        Err(fault) => fault_text(alloc, fault, asked.holds, gate.seen()),
+    }
 }
