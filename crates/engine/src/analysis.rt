@@ -46,17 +46,22 @@ impl Engine<'_> {
         self.marks.begin(self.trail.count())?;
         let end = self.explain_conflict(conflict)?;
         let top = self.top_level();
-        if top <= self.floor {
-            if top == 0 {
-                self.log.end(end)?;
-                self.is_refuted = true;
-            }
-            return Ok(None);
+        if top > self.floor {
+            return Ok(Some(self.learn(top, end)?));
         }
+        if top == 0 {
+            self.log.end(end)?;
+            self.is_refuted = true;
+        }
+        Ok(None)
+    }
+
+    /// Learns from what was found of a conflict: the last level of it, and its reason.
+    fn learn(&mut self, top: u32, end: LineReason) -> Result<Learnt> {
         let point = self.resolve(top)?;
         let first = self.minimise(point, top)?;
         self.marks.end(end)?;
-        Ok(Some(self.make_lemma(first)?))
+        self.make_lemma(first)
     }
 
     /// Makes the lemma of the nogood and this literal, and tells it to the log.

@@ -141,13 +141,20 @@ impl Engine<'_> {
     ) -> Result<SubsearchState, Stop> {
         self.counts.conflicts = self.counts.conflicts.wrapping_add(1);
         self.log_root()?;
-        let Some(Learnt { level, lbd, number }) = self.analyse(conflict)? else {
+        let Some(learnt) = self.analyse(conflict)? else {
             if self.has_path && !self.is_refuted {
                 self.blame_first(conflict)?;
             }
             return Ok(SubsearchState::Refuted);
         };
-        run.pace.note(lbd);
+        run.pace.note(learnt.lbd);
+        self.follow_lemma(learnt)?;
+        Ok(SubsearchState::Open)
+    }
+
+    /// Goes back to where the lemma that was learnt sets a literal, and sees what follows.
+    fn follow_lemma(&mut self, learnt: Learnt) -> Result<(), Stop> {
+        let Learnt { level, lbd, number } = learnt;
         self.go_back(level)?;
         let mut reason = Reason::Given;
         if self.marks.nogood.len() > 1 {
@@ -157,8 +164,7 @@ impl Engine<'_> {
         if let Some(literal) = self.marks.nogood.first().copied() {
             self.trail.force(literal, reason)?;
         }
-        self.propagate()?;
-        Ok(SubsearchState::Open)
+        self.propagate()
     }
 
     /// One step without a conflict: a restart where it is time for one, with a look at imports, or else a decision.

@@ -140,6 +140,59 @@ fn choices_of(
     Choices::new(instance.alloc, trail, sequence, only_orders, seed)
 }
 
+/// What tells which values follow from others.
+#[derive(Drop)]
+struct Propagators<'a> {
+    trail: Trail,
+    edges: Edges,
+    table: TimeTable<'a>,
+    cliques: Cliques<'a>,
+}
+
+/// The propagators of a search that has followed nothing yet, for resources of which some users may run at once.
+fn propagators_of<'a>(
+    instance: &'a Instance,
+    settled: &Settled,
+    resources: &[u32],
+    options: Options,
+) -> Result<Propagators<'a>> {
+    let edges = Edges::new(instance, settled)?;
+    let cliques = cliques_of(instance, settled, &edges, options.has_cliques)?;
+    let table = TimeTable::new(instance, resources)?;
+    let values = first_values(instance, settled, options.most)?;
+    Ok(Propagators {
+        trail: Trail::new(instance.alloc, values)?,
+        edges,
+        table,
+        cliques,
+    })
+}
+
+/// What a search learns from conflicts.
+#[derive(Drop)]
+struct Learning<'a> {
+    lemmas: Lemmas,
+    choices: Choices,
+    log: Log<'a>,
+}
+
+/// What a search knows that has met no conflict yet.
+fn learning_of<'a>(
+    instance: &'a Instance,
+    settled: &Settled,
+    trail: &Trail,
+    only_orders: bool,
+    options: Options,
+) -> Result<Learning<'a>> {
+    let lemmas = Lemmas::new(instance.alloc, trail.values().count())?;
+    let choices = choices_of(instance, settled, trail, only_orders, options.seed)?;
+    Ok(Learning {
+        lemmas,
+        choices,
+        log: Log::new(instance, &settled.open, options.has_log, options.slots)?,
+    })
+}
+
 impl<'a> Engine<'a> {
     /// A search for schedules, over the longest walks. It looks at all that follows at the root.
     pub fn open(instance: &'a Instance, walks: Walks, options: Options) -> Result<Engine<'a>> {
@@ -166,38 +219,53 @@ impl<'a> Engine<'a> {
 
     /// A search under settled orders that has looked at nothing yet.
     fn new(instance: &'a Instance, settled: &Settled, options: Options) -> Result<Engine<'a>> {
-        let alloc = instance.alloc;
         let resources = shared_resources(instance, settled)?;
-        let trail = Trail::new(alloc, first_values(instance, settled, options.most)?)?;
-        let edges = Edges::new(instance, settled)?;
-        Ok(Engine {
-            instance,
-            table: TimeTable::new(instance, &resources)?,
-            cliques: cliques_of(instance, settled, &edges, options.has_cliques)?,
-            edges,
-            lemmas: Lemmas::new(alloc, trail.values().count())?,
-            imports: Vec::new(alloc),
-            looked: options.done.conflicts,
-            choices: choices_of(
-                instance,
-                settled,
-                &trail,
-                resources.is_empty(),
-                options.seed,
-            )?,
+        let propagators = propagators_of(instance, settled, &resources, options)?;
+        let only_orders = resources.is_empty();
+        let learning = learning_of(instance, settled, &propagators.trail, only_orders, options)?;
+        Ok(Engine::of(instance, propagators, learning, options.done))
+    }
+
+    /// A search of these parts that has looked at nothing yet.
+    fn of(
+        instance: &'a Instance,
+        propagators: Propagators<'a>,
+        learning: Learning<'a>,
+        done: SearchCounts,
+    ) -> Engine<'a> {
+        let Propagators {
             trail,
-            marks: Marks::new(alloc),
-            log: Log::new(instance, &settled.open, options.has_log, options.slots)?,
+            edges,
+            table,
+            cliques,
+        } = propagators;
+        let Learning {
+            lemmas,
+            choices,
+            log,
+        } = learning;
+        Engine {
+            instance,
+            trail,
+            edges,
+            table,
+            cliques,
+            lemmas,
+            imports: Vec::new(instance.alloc),
+            looked: done.conflicts,
+            choices,
+            marks: Marks::new(instance.alloc),
+            log,
             logged: 1,
             queue: 1,
-            table_marks: Table::new(alloc, 0),
+            table_marks: Table::new(instance.alloc, 0),
             is_refuted: false,
             floor: 0,
             has_path: false,
-            reduction: options.done.conflicts.wrapping_add(FIRST_REDUCTION),
+            reduction: done.conflicts.wrapping_add(FIRST_REDUCTION),
             reduction_step: FIRST_REDUCTION,
-            counts: options.done,
-        })
+            counts: done,
+        }
     }
 
     /// Whether each start has a value that it may have.
