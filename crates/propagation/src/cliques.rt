@@ -70,21 +70,35 @@ fn bit(place: u32) -> Set {
     1u64.wrapping_shl(place)
 }
 
+/// How many members a clique may have that is looked at everywhere.
+fn most_members(found: &Rows<u32>) -> usize {
+    let mut work = 0u64;
+    for clique in 0..found.count() {
+        let size = found.row(clique).len().min(MOST) as u64;
+        work = work.wrapping_add(size.wrapping_mul(size));
+    }
+    if work <= WORK { MOST } else { 0 }
+}
+
+/// Adds the cliques that have so many members.
+fn add_all(members: &mut Rows<u32>, found: &Rows<u32>, least: usize, most: usize) -> Result<()> {
+    for clique in 0..found.count() {
+        let row = found.row(clique);
+        if least <= row.len() && row.len() <= most {
+            members.push_row(row)?;
+        }
+    }
+    Ok(())
+}
+
 /// The cliques that are looked at everywhere, and then the long ones. Gives how many the first are.
 fn parted(instance: &Instance, found: &Rows<u32>) -> Result<(Rows<u32>, u32)> {
-    let sizes = (0..found.count()).map(|clique| found.row(clique).len().min(MOST) as u64);
-    let work = sizes.map(|size| size.wrapping_mul(size));
-    let is_little = work.fold(0, u64::wrapping_add) <= WORK;
-    let most = if is_little { MOST } else { 0 };
-    let is_short = |clique: &u32| found.row(*clique).len() <= most;
-    let short = (0..found.count()).filter(is_short);
-    let long = (0..found.count()).filter(|clique| !is_short(clique));
+    let most = most_members(found);
     let mut members = Rows::new(instance.alloc, 0);
-    for clique in short.chain(long) {
-        members.push_row(found.row(clique))?;
-    }
-    let count = (0..found.count()).filter(is_short).count();
-    Ok((members, narrow(count)))
+    add_all(&mut members, found, 0, most)?;
+    let count = members.count();
+    add_all(&mut members, found, most.saturating_add(1), usize::MAX)?;
+    Ok((members, count))
 }
 
 impl<'a> Cliques<'a> {
@@ -122,25 +136,30 @@ impl<'a> Cliques<'a> {
         self.relate_all(edges)
     }
 
+    /// Lists the windows of a clique's members, and adds their places to those of activities.
+    fn seat(&mut self, clique: u32, seats: &mut Vec<(u32, Seat)>) -> Result<()> {
+        for (place, activity) in (0..u32::MAX).zip(self.members.row(clique)) {
+            let window = Window {
+                duration: self.instance.durations[*activity],
+                activity: *activity,
+                place,
+                ..Window::default()
+            };
+            self.windows.values.push(window)?;
+            self.turned.values.push(window)?;
+            if clique < self.short {
+                seats.push((*activity, Seat { clique, place }))?;
+            }
+        }
+        self.windows.close()?;
+        self.turned.close()
+    }
+
     /// Lists the windows of all members, and the cliques of each activity. All are to be looked at.
     fn seat_all(&mut self) -> Result<()> {
         let mut seats = Vec::new(self.instance.alloc);
         for clique in 0..self.members.count() {
-            for (place, activity) in (0..u32::MAX).zip(self.members.row(clique)) {
-                let window = Window {
-                    duration: self.instance.durations[*activity],
-                    activity: *activity,
-                    place,
-                    ..Window::default()
-                };
-                self.windows.values.push(window)?;
-                self.turned.values.push(window)?;
-                if clique < self.short {
-                    seats.push((*activity, Seat { clique, place }))?;
-                }
-            }
-            self.windows.close()?;
-            self.turned.close()?;
+            self.seat(clique, &mut seats)?;
             if clique < self.short {
                 self.note(clique, Set::MAX, 0, 0)?;
             }

@@ -104,12 +104,18 @@ impl Edges {
             precedences: precedences(instance, &settled.walks)?,
         };
         edges.take_orders(instance, &settled.open)?;
-        let mut by_slot = Vec::new(alloc);
-        for (number, order) in (0..u32::MAX).zip(&edges.orders.values.items) {
+        edges.list_orders(instance)?;
+        Ok(edges)
+    }
+
+    /// Lists the orders by the slots of their literals.
+    fn list_orders(&mut self, instance: &Instance) -> Result<()> {
+        let mut by_slot = Vec::new(instance.alloc);
+        for (number, order) in (0..u32::MAX).zip(&self.orders.values.items) {
             by_slot.push((order.literal.slot, number))?;
         }
-        edges.by_slot = Rows::by_row(alloc, by_slot, 0)?;
-        Ok(edges)
+        self.by_slot = Rows::by_row(instance.alloc, by_slot, 0)?;
+        Ok(())
     }
 
     /// Takes both orders of each pair.
