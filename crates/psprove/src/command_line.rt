@@ -89,14 +89,20 @@ fn progress<'a>(alloc: Global) -> Arg<'a> {
         .value_parser(FORMS)
 }
 
-/// An option that a search of a cube alone has.
-fn of_cube<'a>(alloc: Global, name: &'a str, about: &'a str) -> Result<Arg<'a>, AllocError> {
-    file(alloc, name, about).requires_arg("under")
+/// Adds an option that a search of a cube alone has.
+fn with_option<'a>(command: Command<'a>, option: Arg<'a>) -> Result<Command<'a>, AllocError> {
+    command.arg(option.requires_arg("under")?)
+}
+
+/// Adds the option that has a cube searched.
+fn with_path<'a>(alloc: Global, command: Command<'a>) -> Result<Command<'a>, AllocError> {
+    let under = "Search the cube whose path is in FILE: an arc a line, FROM TO WEIGHT";
+    let path = file(alloc, "under", under).requires_arg("project")?;
+    command.arg(path.requires_arg("record")?)
 }
 
 /// The options of a search of a cube.
 fn with_cube<'a>(alloc: Global, command: Command<'a>) -> Result<Command<'a>, AllocError> {
-    let under = "Search the cube whose path is in FILE: an arc a line, FROM TO WEIGHT";
     let project = "Read the project of the cube from FILE";
     let import = "Use the lemmas in FILE, which searches of other cubes exported";
     let export = "Write lemmas for searches of other cubes into FILE";
@@ -104,21 +110,14 @@ fn with_cube<'a>(alloc: Global, command: Command<'a>) -> Result<Command<'a>, All
     let below = "Look only for schedules shorter than C";
     let pieces = "Split the cube into P pieces where it stays open";
     let follow = "Take shorter schedules from standard input, whose end ends the search";
-    let pieces = number(alloc, "pieces", "P", pieces, 1, MAX_PIECES);
-    let below = number(alloc, "below", "C", below, 0, MAX_BELOW);
-    command
-        .arg(
-            file(alloc, "under", under)
-                .requires_arg("project")?
-                .requires_arg("record")?,
-        )?
-        .arg(of_cube(alloc, "project", project)?)?
-        .arg(of_cube(alloc, "import", import)?)?
-        .arg(of_cube(alloc, "export", export)?)?
-        .arg(of_cube(alloc, "guide", guide)?)?
-        .arg(below)?
-        .arg(pieces.requires_arg("under")?)?
-        .arg(flag(alloc, "follow", follow).requires_arg("under")?)
+    let command = with_path(alloc, command)?;
+    let command = with_option(command, file(alloc, "project", project))?;
+    let command = with_option(command, file(alloc, "import", import))?;
+    let command = with_option(command, file(alloc, "export", export))?;
+    let command = with_option(command, file(alloc, "guide", guide))?;
+    let command = command.arg(number(alloc, "below", "C", below, 0, MAX_BELOW))?;
+    let command = with_option(command, number(alloc, "pieces", "P", pieces, 1, MAX_PIECES))?;
+    with_option(command, flag(alloc, "follow", follow))
 }
 
 fn solve_command<'a>(alloc: Global, heading: &'a str) -> Result<Command<'a>, AllocError> {
