@@ -8,7 +8,7 @@ use calls::{
 };
 use clap::{Arg, ArgMatches, Command};
 use cubes::Limit;
-use psprove_run::{MAX_JOBS, Progress, SolveOptions};
+use search_jobs::{MAX_JOBS, Progress, SolveOptions};
 use std::alloc::{AllocError, Global};
 
 /// How many seconds a search has by default.

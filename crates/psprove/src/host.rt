@@ -1,7 +1,7 @@
 //! What the program does for its searches while they go on.
 
 use cubes::SearchedCube;
-use psprove_run::Host;
+use search_jobs::Host;
 use std::alloc::{AllocError, Global};
 use std::fs::{self, Files};
 use std::io::{self, ErrorKind, Read};

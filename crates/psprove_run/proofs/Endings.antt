@@ -13,7 +13,7 @@ use Rattle.runs.specs.declared.one_thread.Ended.{Ended}
 use Rattle.runs.specs.Outcome.{IfTextsKnown, Inputs, search_inputs}
 use Rattle.runs.specs.Runs.{HasRead, IsCutShort, IsUntouched, IsWritten, OneFailedWhere, ReplyOf, Span, TookAll, TookFront, span}
 use Rattle.runs.proofs.CallLaws.{write_is_no_search}
-use Rattle.psprove_run.specs.declared.asked.SolveOptions.{SolveOptions}
+use Rattle.search_jobs.specs.declared.asked.SolveOptions.{SolveOptions}
 use Rattle.psprove_run.specs.Recording.{IsRecorder, TookSome}
 use Rattle.psprove_run.specs.Story.{HasNoReply, IsCutOff, IsReply, IsUnanswered, Solves, continued}
 

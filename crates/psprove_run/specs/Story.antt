@@ -1,6 +1,6 @@
 -- The story of a run: what it replies to the texts that its inputs tell.
 use Rattle.std.specs.Prelude.{Some, true, ◌≡◌, ◌≢◌, IfNone, IfSome, ℕ, List, ◌++◌, Bool, false, ◌⊎◌, ℤ, Option, None, MatchOption, option_map}
-use Rattle.psprove_run.specs.declared.asked.SolveOptions.{SolveOptions}
+use Rattle.search_jobs.specs.declared.asked.SolveOptions.{SolveOptions}
 use Rattle.plain_search.specs.declared.search.Outcome.{Outcome}
 use Rattle.answers.specs.Outcomes.{SaysOutcome}
 use Rattle.answers.specs.declared.json_text.Figures.{Figures}

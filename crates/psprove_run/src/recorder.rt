@@ -3,13 +3,11 @@
 ghost use Rattle.std.specs.Prelude.{◌≡◌, ◌<◌, ◌+◌, ◌-◌, ◌^◌, ℕ, [], Some, IsTrue, false, length, min};
 ghost use Rattle.psprove_run.specs.Recording.{IsCopied, IsRecorder, bytes_of};
 
-use crate::host::Host;
-use crate::pause::Pause;
-use crate::searching::JobContext;
 use lemma_record::{LemmaBook, Naming, Taken};
 use runs::{Output, write_all};
+use search_jobs::{Board, Host, Pause};
 use std::marker::{Brand, Model};
-use std::sync::Wait;
+use std::sync::{Mutex, Wait};
 
 /// What the device of a record had taken before a run, and how often it had failed. Each call of a program picks it.
 pub(crate) trait Before {
@@ -122,11 +120,11 @@ impl<'h, H: Host, D: Output, J: Naming + Before> Recorder<'h, H, D, J> {
     }
 
     /// Writes what the log has more than before, once the lock of its book is free again.
-    fn record_more<R: Wait>(&mut self, rt: &R, run: &JobContext<'_, '_, J>) {
+    fn record_more<R: Wait>(&mut self, rt: &R, board: &Mutex<Board<'_, J>>) {
         if self.has_failed {
             return;
         }
-        let piece = run.board.lock(rt).book.take_log(&mut self.taken);
+        let piece = board.lock(rt).book.take_log(&mut self.taken);
         if let Some(piece) = piece {
             self.has_failed = has_failed_at(&mut self.device, &mut self.bytes, &piece);
         }
@@ -134,8 +132,12 @@ impl<'h, H: Host, D: Output, J: Naming + Before> Recorder<'h, H, D, J> {
 }
 
 impl<'h, H: Host, D: Output, J: Naming + Before> Pause<J> for Recorder<'h, H, D, J> {
-    fn goes_on<R: Wait>(&mut self, rt: &R, run: &JobContext<'_, '_, J>) -> bool {
-        self.record_more(rt, run);
+    fn goes_on<R: Wait>(&mut self, rt: &R, board: &Mutex<Board<'_, J>>) -> bool {
+        self.record_more(rt, board);
         !(self.has_failed || self.host.wants_end())
+    }
+
+    fn joined(&mut self, book: &mut LemmaBook<'_, J>) {
+        self.record(book);
     }
 }

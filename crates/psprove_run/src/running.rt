@@ -7,13 +7,12 @@ ghost use Rattle.runs.specs.Runs.{span, HasRead};
 ghost use Rattle.runs.specs.Outcome.{IfTextsKnown, search_inputs};
 ghost use Rattle.psprove_run.specs.Story.{HasNoReply, IsReply, Solves, continued};
 
-use crate::asked::SolveOptions;
-use crate::host::Host;
 use crate::recorder::{Before, Recorder};
 use crate::solving::{solved, solved_from};
 use answers::Fault;
 use lemma_record::{Blank, Naming, Opened};
 use runs::{Ended, Input, Output, Reply, read_project, read_text, write_reply};
+use search_jobs::{Host, SolveOptions};
 use std::alloc::Global;
 use std::marker::Brand;
 use std::sync::{Arc, Wait};

@@ -9,15 +9,14 @@ ghost use Rattle.runs.specs.Outcome.{GivesStarts, IsFirstStartsFault};
 ghost use Rattle.lemma_record.specs.LemmaBook.{IsShownOf};
 ghost use Rattle.psprove_run.specs.Story.{IsShownReply, IsStartedReply, Says, continued};
 
-use crate::asked::SolveOptions;
-use crate::host::Host;
-use crate::jobs::{SearchFault, SearchResult, searched};
+use crate::found::{SearchResult, searched};
 use crate::recorder::{Before, Recorder};
 use answers::{Answer, Fault, Figures, figured_answer, outcome_of, solved_answer};
 use lemma_record::{Blank, Naming};
 use network::{Project, Schedule};
 use plain_search::Outcome;
 use runs::{Judged, Output, Reply, judged_starts};
+use search_jobs::{Host, SearchFault, SolveOptions};
 use std::alloc::{AllocError, Global};
 use std::sync::{Arc, Wait};
 use std::thread::Threads;

@@ -2,11 +2,10 @@
 
 use crate::host::Host;
 use crate::joining::{Joint, Key, want};
-use crate::recorder::{Before, Recorder};
+use crate::pause::Pause;
 use crate::resuming::ResumeFault;
 use cubes::{CubeLemma, SearchedCube, TextFault, lemmas_of};
 use lemma_record::{LemmaBook, Naming};
-use runs::Output;
 use std::alloc::{AllocError, Global};
 use std::collections::HashSet;
 
@@ -113,32 +112,32 @@ fn wanted_of<H: Host>(alloc: Global, host: &H) -> Result<HashSet<Key>, AllocErro
 }
 
 /// Joins the logs of all cubes, and then nodes of which both halves are closed.
-fn join_each<R: Eprint, H: Host, D: Output, J: Naming + Before>(
+fn join_each<R: Eprint, H: Host, J: Naming, P: Pause<J>>(
     rt: &R,
     alloc: Global,
+    host: &H,
     joint: &mut Joint,
     book: &mut LemmaBook<'_, J>,
-    recorder: &mut Recorder<'_, H, D, J>,
+    pause: &mut P,
 ) -> Result<(), AllocError> {
-    let host = recorder.host();
     for place in 0..host.cubes().len() {
         join(rt, alloc, host, place, joint, book)?;
-        recorder.record(book);
+        pause.joined(book);
     }
     joint.close_nodes(book)
 }
 
-/// The book, of which so many slots are used, takes the logs of all cubes. They are recorded as they come. How many slots
-/// are used then.
-pub(crate) fn join_all<R: Eprint, H: Host, D: Output, J: Naming + Before>(
+/// The book, of which so many slots are used, takes the logs of all cubes. How many slots are used then.
+pub(crate) fn join_all<R: Eprint, H: Host, J: Naming, P: Pause<J>>(
     rt: &R,
     alloc: Global,
+    host: &H,
     book: &mut LemmaBook<'_, J>,
-    recorder: &mut Recorder<'_, H, D, J>,
+    pause: &mut P,
     slots: usize,
 ) -> Result<usize, AllocError> {
-    let wanted = wanted_of(alloc, recorder.host())?;
+    let wanted = wanted_of(alloc, host)?;
     let mut joint = Joint::new(alloc, wanted, slots);
-    join_each(rt, alloc, &mut joint, book, recorder)?;
+    join_each(rt, alloc, host, &mut joint, book, pause)?;
     Ok(joint.slots())
 }

@@ -252,7 +252,7 @@ fn search_within<R: Clock + Eprint + Wait, J: Naming, P: Pause<J>>(
     searcher: &mut SearchJob<'_, '_>,
 ) -> Result<(), AllocError> {
     for _ in 0..u64::MAX {
-        if !pause.goes_on(rt, run) {
+        if !pause.goes_on(rt, run.board) {
             run.board.lock(rt).is_over = true;
             break;
         }

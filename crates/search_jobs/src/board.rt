@@ -16,10 +16,10 @@ const LONG: usize = 40;
 
 /// What the searches know together. It lies under a lock.
 #[derive(Drop)]
-pub(crate) struct Board<'a, J: Naming> {
+pub struct Board<'a, J: Naming> {
     alloc: Global,
     /// What is proved, whoever offered it.
-    pub(crate) book: LemmaBook<'a, J>,
+    pub book: LemmaBook<'a, J>,
     /// Who uses its lemmas.
     pub(crate) shelf: Shelf,
     finder: Finder,
@@ -289,12 +289,6 @@ impl<'a, J: Naming> Board<'a, J> {
     pub(crate) fn give_up(&mut self) {
         self.is_short_of_memory = true;
         self.is_over = true;
-    }
-
-    /// The book, when nothing else is asked any more.
-    pub(crate) fn into_book(self) -> LemmaBook<'a, J> {
-        let Board { book, .. } = self;
-        book
     }
 
     /// Where the searches stood when they stopped. Where memory ran out in one, another must have ended.
