@@ -78,6 +78,32 @@ impl<L: Ledger, S: Ledger> Shared<L, S> {
 
     /// Expands a node under the lesser of the ticket's ceiling and the shared ceiling. If the book knows of no schedule so
     /// short, it expands the node again, under the best that the book has.
+    fn settle_by<G: Gate, R: Wait>(
+        &self,
+        rt: &R,
+        alloc: Global,
+        desk: &mut WorkerState<L, S>,
+        gate: &G,
+        searcher: &mut Searcher,
+        ticket: &mut Ticket,
+    ) -> Result<Option<i64>, CheckFault>
+        requires seated { SeatedAt self.now desk.old }
+        requires at { IsAt searcher.old (arc_value ticket.old.node) }
+        ensures two_reports { MakesAtMost 2 desk.old.key desk.new.key }
+        ensures stays { StaysAt self.now desk.old desk.new }
+        ensures counts { CountsAccepted desk.old result desk.new }
+    {
+        let shared = self.best.look(&mut desk.seat);
+        ticket.ceiling = lesser(ticket.ceiling, i64::try_from(shared).ok());
+        let settled = self.attempt(rt, alloc, desk, gate, searcher, ticket);
+        let Err(CheckFault::AheadOfBook { best }) = settled else {
+            return settled;
+        };
+        ticket.ceiling = best;
+        self.attempt(rt, alloc, desk, gate, searcher, ticket)
+    }
+
+    /// Settles a node with the searcher that the desk keeps, or a new one.
     fn settle<G: Gate, R: Wait>(
         &self,
         rt: &R,
@@ -94,13 +120,7 @@ impl<L: Ledger, S: Ledger> Shared<L, S> {
         let Ok(mut searcher) = searcher_at(alloc, desk.searcher.take(), &ticket.node) else {
             return Err(CheckFault::Memory);
         };
-        let shared = self.best.look(&mut desk.seat);
-        ticket.ceiling = lesser(ticket.ceiling, i64::try_from(shared).ok());
-        let mut settled = self.attempt(rt, alloc, desk, gate, &mut searcher, &ticket);
-        if let Err(CheckFault::AheadOfBook { best }) = settled {
-            ticket.ceiling = best;
-            settled = self.attempt(rt, alloc, desk, gate, &mut searcher, &ticket);
-        }
+        let settled = self.settle_by(rt, alloc, desk, gate, &mut searcher, &mut ticket);
         desk.searcher = Some(searcher);
         settled
     }

@@ -4,6 +4,7 @@ ghost use Rattle.std.specs.Prelude.{◌≡◌, ◌+◌, ◌<◌, OnOk, IfOk, IfE
 ghost use Rattle.std.specs.Arc.{arc_value};
 ghost use Rattle.std.specs.Bool.{OnTrue};
 ghost use Rattle.network.specs.Schedule.{makespan};
+ghost use Rattle.book.specs.State.{AddUp, counts_of};
 ghost use Rattle.plain_search.specs.Verdicts.{IsTrueOf};
 ghost use Rattle.worker.specs.Desks.{HasTold, IsRow};
 ghost use Rattle.worker.specs.Solving.{IsNotLimit, RefusesLimits, HasBestWithin, IsBestAfter, IsOutcomeAfter, IsOutcomeOf, IsSolution, IsTrailOf};
@@ -134,7 +135,33 @@ fn is_over(counts: &Counts, takes: u64) -> bool
     (counts.waiting == 0 && counts.hand == 0) || counts.taken == takes
 }
 
-/// The outcome of a book whose workers have all ended, and its trail. Its project has to be the given one.
+/// What a book counts whose workers have all ended. Its project has to be the given one.
+fn final_counts(
+    project: &Project,
+    takes: u64,
+    start: Option<Schedule>,
+    book: &mut Book,
+) -> Result<Counts, SolveFault>
+    ensures same { OnOk result (book.old.project ≡ project.now) }
+    ensures best { OnOk result (IfSome start (λ s. HasBestWithin (makespan s.starts) book.new)) }
+    ensures offered { OnOk result (IsBestAfter book.old start book.new.best) }
+    ensures only { book.new ≡ record book.old { best = book.new.best } }
+    ensures counts { IfOk result (λ c. (c ≡ counts_of book.new) × AddUp c) }
+    ensures over { IfOk result (λ c. 0 < c.waiting + c.hand → c.taken ≡ takes) }
+    ensures fault { IfErr result IsNotLimit }
+{
+    if !book.project().is_same(project) {
+        return Err(SolveFault::OtherProject);
+    }
+    offer_again(book, start)?;
+    let counts = book.counts();
+    if !is_over(&counts, takes) {
+        return Err(SolveFault::Thread);
+    }
+    Ok(counts)
+}
+
+/// The outcome of a book whose workers have all ended, and its trail.
 fn conclude<R: Threads>(
     rt: &R,
     alloc: Global,
@@ -150,14 +177,7 @@ fn conclude<R: Threads>(
     ensures trail { IfOk result (λ r. IfSome r.1 (IsTrailOf project.now r.0.outcome)) }
     ensures fault { IfErr result IsNotLimit }
 {
-    if !book.project().is_same(project) {
-        return Err(SolveFault::OtherProject);
-    }
-    offer_again(&mut book, start)?;
-    let counts = book.counts();
-    if !is_over(&counts, takes) {
-        return Err(SolveFault::Thread);
-    }
+    let counts = final_counts(project, takes, start, &mut book)?;
     let per_worker = accepted(alloc, tallies)?;
     let (outcome, trail) = outcome_of(rt, book);
     let solved = Solved {

@@ -1,6 +1,6 @@
 //! Starts the threads of workers, and joins them.
 
-ghost use Rattle.std.specs.Prelude.{◌≡◌, ◌≤◌, IfOk, IfErr, vec_len, vec_capacity, []};
+ghost use Rattle.std.specs.Prelude.{◌≡◌, ◌≤◌, IfOk, IfErr, vec_len, vec_capacity, [], true};
 ghost use Rattle.worker.specs.Desks.{IsRow};
 ghost use Rattle.worker.specs.Solving.{EndsSearch, IsNotLimit, first_fault};
 
@@ -13,7 +13,7 @@ use std::alloc::Global;
 use std::sync::Wait;
 use std::sync::ledger::Ledger;
 use std::thread;
-use std::thread::{JoinHandle, Threads};
+use std::thread::{JoinHandle, Scope, Threads};
 
 /// A worker's desk after its end, and how it ended.
 type WorkerEnd<L, S> = (WorkerState<L, S>, Result<(), WorkFault>);
@@ -67,6 +67,67 @@ fn end_of(started: bool, fault: Option<WorkFault>) -> Result<(), SolveFault>
     }
 }
 
+/// The desks of the threads, which are joined, in their order.
+fn desks_after<L: Ledger, S: Ledger, R: Threads>(
+    rt: &R,
+    started: bool,
+    running: Vec<JoinHandle<WorkerEnd<L, S>>>,
+    ends: Vec<WorkerEnd<L, S>>,
+    places: Vec<WorkerState<L, S>>,
+) -> Result<Vec<WorkerState<L, S>>, SolveFault>
+    requires ends { (ends.items ≡ []) × (vec_len running ≤ vec_capacity ends) }
+    requires places { (places.items ≡ []) × (vec_len running ≤ vec_capacity places) }
+    ensures all { IfOk result (λ back. (started ≡ true) × (vec_len back ≡ vec_len running)) }
+    ensures fault { IfErr result IsNotLimit }
+{
+    let (back, fault) = parted(join_all(rt, running, ends), places);
+    end_of(started, fault)?;
+    Ok(back)
+}
+
+/// Starts a worker at each desk in a thread of its own, up to the first that can't be started: then the book is halted.
+/// The threads, and whether all are there.
+fn start_workers<
+    's,
+    E,
+    L: Ledger + Send + Sync + 's,
+    S: Ledger + Send + Sync + 's,
+    G: Gate + 's,
+    R: Threads + Wait + Sync + 's,
+>(
+    scope: &'s Scope<'s, E>,
+    rt: &'s R,
+    alloc: Global,
+    shared: &'s Shared<L, S>,
+    mut key: Key<S>,
+    desks: Vec<WorkerState<L, S>>,
+    gate: &'s G,
+    places: Vec<JoinHandle<WorkerEnd<L, S>>>,
+) -> (Vec<JoinHandle<WorkerEnd<L, S>>>, bool)
+    requires row { IsRow shared.now desks.items }
+    requires empty { places.items ≡ [] }
+    requires room { vec_len desks ≤ vec_capacity places }
+    ensures some { vec_len result.0 ≤ vec_len desks }
+    ensures all { result.1 ≡ true → vec_len result.0 ≡ vec_len desks }
+{
+    let mut running = places;
+    for desk in desks {
+        let worker = move || -> WorkerEnd<L, S>
+            requires { desk.seat.ceiling ≡ shared.now.best }
+        {
+            let mut desk = desk;
+            let ended = shared.serve_to_end(rt, alloc, &mut desk, gate);
+            (desk, ended)
+        };
+        let Ok(handle) = scope.spawn(worker) else {
+            shared.halt(rt, &mut key);
+            return (running, false);
+        };
+        running.push_reserved(handle);
+    }
+    (running, true)
+}
+
 /// Runs a worker at each desk in its own thread, and gives the desks back in their order. Where a thread can't be
 /// started, the book is halted and the others are joined.
 pub(crate) fn run_workers<
@@ -103,29 +164,10 @@ pub(crate) fn run_workers<
             ensures count { IfOk result (λ back. vec_len back ≡ vec_len desks) }
             ensures fault { IfErr result IsNotLimit }
         {
-            let mut running: Vec<JoinHandle<WorkerEnd<L, S>>> = room;
-            let mut key = key;
-            let mut started = true;
-            for desk in desks {
-                let worker = move || -> WorkerEnd<L, S>
-                    requires { desk.seat.ceiling ≡ shared.now.best }
-                {
-                    let mut desk = desk;
-                    let ended = shared.serve_to_end(rt, alloc, &mut desk, gate);
-                    (desk, ended)
-                };
-                match scope.spawn(worker) {
-                    Ok(handle) => running.push_reserved(handle),
-                    Err(_) => {
-                        shared.halt(rt, &mut key);
-                        started = false;
-                        break;
-                    }
-                }
-            }
-            let (back, fault) = parted(join_all(rt, running, ends), places);
-            end_of(started, fault)?;
-            Ok(back)
+            let (running, started) = start_workers(
+                scope, rt, alloc, shared, key, desks, gate, room,
+            );
+            desks_after(rt, started, running, ends, places)
         },
     )
 }

@@ -1,6 +1,6 @@
-use Rattle.std.proofs.Common.{◌≡◌, ◌+◌, length, vec_len, vec_capacity, true}
+use Rattle.std.proofs.Common.{◌≡◌, ◌+◌, length, vec_len, vec_capacity}
 use Rattle.worker.specs.Desks.{IsRowAt}
-use Rattle.worker.proofs.threads.fn.run_workers.scope.Given as goal
+use Rattle.worker.proofs.threads.start_workers.Given as goal
 
 abbrev pub invariant-loop-desk : goal.invariant-loop-desk
 invariant-loop-desk g l = record {
@@ -8,5 +8,4 @@ invariant-loop-desk g l = record {
   started : vec_len l.running ≡ length l.yielded;
   room : vec_capacity l.running ≡ vec_capacity l.initial.running;
   all : length l.yielded + length l.desk-iterator.rest.items ≡ length l.initial.desk-iterator.rest.items;
-  none : l.started ≡ true;
 }
