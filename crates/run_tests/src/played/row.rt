@@ -1,11 +1,14 @@
 //! Calls that are played through devices, and what they have to tell.
 
+ghost use Rattle.std.specs.Prelude.{◌<◌, IfOk};
+ghost use Rattle.calls.specs.Calls.{IsPsmaxCall};
+
 use crate::gates::{HoldingGate, Holds};
-use crate::played::devices::{Limits, giving, taking};
+use crate::played::devices::{Bounded, Limits, giving, taking};
 use crate::played::text_of;
 use calls::{ArgumentsFault, PsmaxCall, call_of};
 use psmax_run::run_parallel;
-use runs::{Ended, InputReader, OutputWriter, RecordKind, Scope, run, run_verify};
+use runs::{Ended, Input, InputReader, Output, OutputWriter, RecordKind, Scope, run, run_verify};
 use std::alloc::{AllocError, Global};
 use std::process::Abort;
 use std::sync::Wait;
@@ -42,6 +45,32 @@ pub(super) fn call_text(alloc: Global, line: &str) -> Result<String, AllocError>
     }
 }
 
+/// How a call ends on these devices.
+fn ended_of<I: Input, S: Input, O: Output, D: Output, R: Threads + Wait + Sync>(
+    rt: &R,
+    alloc: Global,
+    call: &PsmaxCall,
+    input: &mut I,
+    second: &mut S,
+    out: &mut O,
+    record: &mut D,
+    gate: &HoldingGate,
+) -> Ended
+    requires call { IsPsmaxCall call.now }
+    requires input { I.failed input.old < u64.MAX }
+    requires second { S.failed second.old < u64.MAX }
+    requires out { O.failed out.old < u64.MAX }
+    requires record { D.failed record.old < u64.MAX }
+{
+    let PsmaxCall::Run(call) = call else {
+        return run_verify(alloc, &Scope::Whole, RecordKind::Tree, input, second, out);
+    };
+    match call.job.by_workers() {
+        Some(options) => run_parallel(rt, alloc, options, input, second, out, record, gate),
+        None => run(alloc, call.job, input, second, out),
+    }
+}
+
 /// The exit status, the fault, if any, the answer and the record, with a bar behind each of these.
 fn ended_text(alloc: Global, ended: Ended, out: &[u8], record: &[u8]) -> Result<String, Fail> {
     let (out, record) = (str::from_utf8(out)?, str::from_utf8(record)?);
@@ -50,6 +79,17 @@ fn ended_text(alloc: Global, ended: Ended, out: &[u8], record: &[u8]) -> Result<
         Some(fault) => Ok(format!(in alloc; "{exit} {fault}|{out}|{record}|")?),
         None => Ok(format!(in alloc; "{exit}|{out}|{record}|")?),
     }
+}
+
+/// The text of what a call told, and how often its outputs took bytes.
+fn told_of(
+    alloc: Global,
+    ended: Ended,
+    out: &Bounded,
+    record: &Bounded,
+) -> Result<(String, usize), Fail> {
+    let told = ended_text(alloc, ended, &out.taken, &record.taken)?;
+    Ok((told, out.writes.saturating_add(record.writes)))
 }
 
 /// The beginning of a text.
@@ -111,6 +151,17 @@ impl<'a> Row<'a> {
         Ok(told)
     }
 
+    /// The call that the words make.
+    fn call(&self, alloc: Global) -> Result<PsmaxCall, Fail>
+        ensures { IfOk result IsPsmaxCall }
+    {
+        match call_of(alloc, &words_of(alloc, self.line)?) {
+            Ok(call) => Ok(call),
+            Err(ArgumentsFault::Memory) => Err(AllocError.into()),
+            Err(_) => Err("these words make no call".into()),
+        }
+    }
+
     /// What is told of the call, and how often its outputs took bytes.
     fn played<R: Threads + Wait + Sync>(
         &self,
@@ -119,42 +170,23 @@ impl<'a> Row<'a> {
         limits: Limits,
         gate: &HoldingGate,
     ) -> Result<(String, usize), Fail> {
-        let call = match call_of(alloc, &words_of(alloc, self.line)?) {
-            Ok(call) => call,
-            Err(ArgumentsFault::Memory) => return Err(AllocError.into()),
-            Err(_) => return Err("these words make no call".into()),
-        };
+        let call = self.call(alloc)?;
         let [text, second] = self.texts;
         let mut input = InputReader::new(giving(text, limits.input));
         let mut second = InputReader::new(giving(second, limits.second));
         let mut out = OutputWriter::new(taking(alloc, limits.out, limits));
         let mut record = OutputWriter::new(taking(alloc, limits.record, limits));
-        let ended = match call {
-            PsmaxCall::Run(call) => match call.job.by_workers() {
-                Some(options) => run_parallel(
-                    rt,
-                    alloc,
-                    options,
-                    &mut input,
-                    &mut second,
-                    &mut out,
-                    &mut record,
-                    gate,
-                ),
-                None => run(alloc, call.job, &mut input, &mut second, &mut out),
-            },
-            PsmaxCall::Verify(_) => run_verify(
-                alloc,
-                &Scope::Whole,
-                RecordKind::Tree,
-                &mut input,
-                &mut second,
-                &mut out,
-            ),
-        };
-        let (out, record) = (out.into_inner(), record.into_inner());
-        let told = ended_text(alloc, ended, &out.taken, &record.taken)?;
-        Ok((told, out.writes.saturating_add(record.writes)))
+        let ended = ended_of(
+            rt,
+            alloc,
+            &call,
+            &mut input,
+            &mut second,
+            &mut out,
+            &mut record,
+            gate,
+        );
+        told_of(alloc, ended, &out.into_inner(), &record.into_inner())
     }
 
     /// Plays the call through outputs that take few bytes at once, and are handed all that is left.
