@@ -1,11 +1,14 @@
 //! A book accepts what was proved at a desk.
 
-ghost use Rattle.std.specs.Prelude.{◌≡◌, ◌↔◌, IsTrue, IfOk, OnErr};
-ghost use Rattle.lemma_book.specs.Ledger.{HasRoom};
+ghost use Rattle.std.specs.Prelude.{◌≡◌, ◌↔◌, IsTrue, IsSome, IfOk, OnOk, OnErr, List};
+ghost use Rattle.lemma_book.specs.Ledger.{HasRoom, MayTake, with_lemma};
 ghost use Rattle.lemma_book.specs.Premises.{AreAhead, premises_in};
+ghost use Rattle.lemma_log.specs.Text.{IsWritableBody};
 ghost use Rattle.lemma_proof.specs.Lines.{HaveUsed};
+ghost use Rattle.lemma_proof.specs.declared.line.Line.{Line};
 ghost use Rattle.lemma_record.specs.declared.desk.Lemma.{Lemma};
 ghost use Rattle.lemma_record.specs.LemmaBook.{IsCutShort};
+ghost use Rattle.lemma_record.specs.Right.{IsStep, Takes};
 ghost use Rattle.lemma_record.specs.Desk.{Accepts, AcceptsEach, AcceptsSome, IsShown, emptied, event_of};
 
 use crate::Naming;
@@ -36,6 +39,25 @@ fn event_of(lemma: Lemma) -> Event
 }
 
 impl<'a, J: Naming> LemmaBook<'a, J> {
+    /// Keeps a lemma that may be taken, and logs its event.
+    fn keep_logged(&mut self, slot: usize, arcs: Lags, event: &Event) -> Result<(), AllocError>
+        requires may { (lines : List Line) × MayTake self.old.ledger slot arcs lines }
+        requires event { IsStep event.now × IsWritableBody event.now
+            × Takes self.old.ledger event.now (with_lemma self.old.ledger slot arcs) }
+        ensures kept { OnOk result ((self.new.ledger ≡ with_lemma self.old.ledger slot arcs) × IsSome self.new.log) }
+        ensures cut_short { OnErr result (IsCutShort self.old event.now self.new) }
+    {
+        let Some(log) = &mut self.log else {
+            return Err(AllocError);
+        };
+        self.ledger.keep(slot, arcs)?;
+        if log_event(self.alloc, log, event).is_err() {
+            self.log = None;
+            return Err(AllocError);
+        }
+        Ok(())
+    }
+
     /// Takes and logs a lemma that lines show beside some premises, if the ledger is ahead of these and has what the lines
     /// rest on.
     fn accept_beside(
@@ -55,20 +77,13 @@ impl<'a, J: Naming> LemmaBook<'a, J> {
         if !has_all(&self.ledger, premises, &lemma) {
             return Ok(false);
         }
-        let Some(log) = &mut self.log else {
-            return Err(AllocError);
-        };
         let slot = lemma.slot;
         let arcs = Lags::new(lemma.arcs.as_slice().to_vec(self.alloc)?);
         let event = event_of(lemma);
         if !is_writable(&event) {
             return Ok(false);
         }
-        self.ledger.keep(slot, arcs)?;
-        if log_event(self.alloc, log, &event).is_err() {
-            self.log = None;
-            return Err(AllocError);
-        }
+        self.keep_logged(slot, arcs, &event)?;
         Ok(true)
     }
 
