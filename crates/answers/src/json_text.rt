@@ -50,10 +50,12 @@ fn answer_value(
     ensures { IfOk result (λ v. view v
         ≡ answer_data bound makespan (option_map (λ n. n.now) starts.entry) status.now) }
 {
-    let bound = number_or_null(bound);
-    let makespan = number_or_null(makespan);
-    let starts = list_or_null(alloc, starts)?;
-    json!(in alloc; {"bound": bound, "makespan": makespan, "starts": starts, "status": status})
+    json!(in alloc; {
+        "bound": number_or_null(bound),
+        "makespan": number_or_null(makespan),
+        "starts": list_or_null(alloc, starts)?,
+        "status": status
+    })
 }
 
 /// A value as one line.
@@ -105,17 +107,14 @@ fn figured_value(
     ensures { IfOk result (λ v. view v
         ≡ figured_data figures.now bound makespan (option_map (λ n. n.now) starts.entry) status.now) }
 {
-    let bound = number_or_null(bound);
-    let makespan = number_or_null(makespan);
-    let starts = list_or_null(alloc, starts)?;
     json!(in alloc; {
-        "bound": bound,
+        "bound": number_or_null(bound),
         "conflicts": figures.conflicts,
         "decisions": figures.decisions,
-        "makespan": makespan,
+        "makespan": number_or_null(makespan),
         "record_bytes": figures.record_bytes,
         "seconds": figures.seconds,
-        "starts": starts,
+        "starts": list_or_null(alloc, starts)?,
         "status": status,
         "version": VERSION
     })
