@@ -4,6 +4,7 @@ ghost use Rattle.std.specs.Prelude.{◌≡◌, ◌<◌, ◌≤◌, ◌⊎◌, []
 ghost use Rattle.std.specs.Arc.{arc_value};
 ghost use Rattle.branching.specs.Fair.{IsRootOf, IsShorterOf, ceiling_of};
 ghost use Rattle.branching.specs.Right.{IsLeast};
+ghost use Rattle.branching.specs.Subproblem.{Subproblem};
 ghost use Rattle.plain_search.specs.Takes.{bounds_of, PopsUnder, IsTake, IsOutcomeOf, StopsOnlyAfter, first_state};
 ghost use Rattle.plain_search.specs.Verdicts.{IsTrueOf, StopsBelowBest};
 
@@ -179,6 +180,30 @@ impl Search {
     }
 }
 
+/// Goes on from the start of a search, as [`search_alone`] does.
+fn search_from(
+    alloc: Global,
+    search: Search,
+    searcher: &mut Searcher,
+    takes: u64,
+) -> Result<Outcome, AllocError>
+    requires limit { takes ≤ MAX_EXPANDED }
+    requires searcher { searcher.old.project ≡ search.project }
+    requires start { (root : Subproblem) × IsRootOf search.project root × (search ≡ first_state search.project root) }
+    ensures true_of { IfOk result (IsTrueOf search.project) }
+    ensures below_best { IfOk result StopsBelowBest }
+    ensures takes { IfOk result (StopsOnlyAfter search.project takes) }
+{
+    let mut search = search;
+    for _ in 0..takes {
+        if search.is_done() {
+            break;
+        }
+        search = search.take(alloc, searcher)?;
+    }
+    Ok(search.into_outcome())
+}
+
 /// Searches for a shortest schedule in one thread, depth first, with at most `takes` nodes expanded.
 ///
 /// It takes the last node on a stack. It drops a node whose bound is at least the best makespan, and doesn't count it.
@@ -201,13 +226,8 @@ pub fn search_alone(
         Err(PathFault::PositiveCycle { .. }) => return Ok(Outcome::NoSchedule),
         Err(PathFault::Memory) => return Err(AllocError),
     };
+    let project = Arc::try_clone(project)?;
     let mut searcher = Searcher::for_node(alloc, &root)?;
-    let mut search = Search::new(alloc, Arc::try_clone(project)?, root)?;
-    for _ in 0..takes {
-        if search.is_done() {
-            break;
-        }
-        search = search.take(alloc, &mut searcher)?;
-    }
-    Ok(search.into_outcome())
+    let search = Search::new(alloc, project, root)?;
+    search_from(alloc, search, &mut searcher, takes)
 }
