@@ -1,7 +1,7 @@
 //! The search of a cube: the whole search, under a path.
 
 use crate::shortened;
-use crate::solver::SolverOptions;
+use crate::solver::{SolverOptions, last_ceiling};
 use engine::{
     Engine, LoggedEvent, Options, Pace, Path, Piece, SearchCounts, Subsearch, SubsearchState,
 };
@@ -69,18 +69,8 @@ impl<'a> CubeSearch<'a> {
         if walks.has_loop() || instance.asks_too_much() {
             return Ok(Cubed::Contradiction);
         }
-        let most = match ceiling {
-            Some(ceiling) => ceiling.wrapping_sub(1),
-            None => instance.horizon,
-        };
-        let options = Options {
-            most,
-            has_log: true,
-            has_cliques: true,
-            seed: limits.seed,
-            slots: limits.slots,
-            done: SearchCounts::default(),
-        };
+        let ceiling = ceiling.unwrap_or(last_ceiling(instance));
+        let options = limits.engine(ceiling, SearchCounts::default());
         CubeSearch::under(instance, walks, options, limits.memory, arcs)
     }
 

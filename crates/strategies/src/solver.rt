@@ -2,7 +2,7 @@
 
 use crate::cube::{CubeSearch, Cubed};
 use crate::shortened;
-use crate::turns::{Finder, Turns};
+use crate::turns::{Finder, Strategies, Turns};
 use engine::{Engine, LoggedEvent, Options, Pace, SearchCounts, Slots, Subsearch, SubsearchState};
 use instance::{Instance, Result, Walks};
 use network::Lag;
@@ -18,6 +18,20 @@ pub struct SolverOptions {
     pub slots: Slots,
     /// What schedules are to be shorter than, though none is known.
     pub below: Option<i32>,
+}
+
+impl SolverOptions {
+    /// What an engine is asked for, which looks for schedules that end before a ceiling.
+    pub(crate) fn engine(self, ceiling: i32, done: SearchCounts) -> Options {
+        Options {
+            most: ceiling.wrapping_sub(1),
+            has_log: true,
+            has_cliques: true,
+            seed: self.seed,
+            slots: self.slots,
+            done,
+        }
+    }
 }
 
 /// Where a search stands.
@@ -48,7 +62,30 @@ struct FirstSearch<'a> {
     dive: Option<i32>,
 }
 
-impl FirstSearch<'_> {
+/// Schedules end before this, whatever is known.
+pub(crate) fn last_ceiling(instance: &Instance) -> i32 {
+    instance.horizon.wrapping_add(1)
+}
+
+impl<'a> FirstSearch<'a> {
+    /// A search over the longest walks: at the root, where it keeps a log, or a dive below a ceiling.
+    fn new(
+        instance: &'a Instance,
+        walks: &Walks,
+        limits: SolverOptions,
+        done: SearchCounts,
+        dive: Option<i32>,
+    ) -> Result<FirstSearch<'a>> {
+        let last = last_ceiling(instance);
+        let mut options = limits.engine(dive.unwrap_or(last).min(last), done);
+        options.has_log = dive.is_none();
+        options.has_cliques = false;
+        let mut engine = Engine::open(instance, walks.try_copy()?, options)?;
+        let most = if dive.is_some() { DIVE } else { ROOT };
+        let run = engine.start(Vec::new(instance.alloc), most, Pace::default())?;
+        Ok(FirstSearch { engine, run, dive })
+    }
+
     /// Searches for so many steps.
     fn search(&mut self, steps: u64) -> Result<SubsearchState> {
         self.engine.search(&mut self.run, steps)
@@ -84,98 +121,73 @@ pub struct Solver<'a> {
     is_full: bool,
 }
 
+/// The search for schedules that end before a time.
+fn search_below(instance: &Instance, limits: SolverOptions, below: i32) -> Result<Stage<'_>> {
+    let arc = Lag {
+        from: instance.end() as usize,
+        to: 0,
+        weight: 1i64.wrapping_sub(i64::from(below)),
+    };
+    Ok(match CubeSearch::open(instance, limits, None, &[arc])? {
+        Cubed::Search(search) => Stage::Below(search),
+        Cubed::Contradiction | Cubed::Other(_) => Stage::Contradiction,
+    })
+}
+
+/// What a search does first, and the longest walks that it needs for what comes then.
+fn first_stage(instance: &Instance, limits: SolverOptions) -> Result<(Option<Walks>, Stage<'_>)> {
+    if let Some(below) = limits.below {
+        return Ok((None, search_below(instance, limits, below)?));
+    }
+    let walks = Walks::new(instance)?;
+    if walks.has_loop() || instance.asks_too_much() {
+        return Ok((None, Stage::Contradiction));
+    }
+    let first = FirstSearch::new(instance, &walks, limits, SearchCounts::default(), None)?;
+    Ok((Some(walks), Stage::First(first)))
+}
+
 impl<'a> Solver<'a> {
     /// A search that has done nothing yet.
     pub fn new(instance: &'a Instance, limits: SolverOptions) -> Result<Solver<'a>> {
-        let mut solver = Solver {
+        let (walks, stage) = first_stage(instance, limits)?;
+        Ok(Solver {
             instance,
-            walks: None,
-            stage: Stage::Contradiction,
+            walks,
+            stage,
             limits,
             told: Vec::new(instance.alloc),
             done: SearchCounts::default(),
             is_full: false,
-        };
-        solver.begin()?;
-        Ok(solver)
+        })
     }
 
-    /// Begins to look for schedules below an end, or for a first one, unless the project contradicts itself.
-    fn begin(&mut self) -> Result<()> {
-        if let Some(below) = self.limits.below {
-            return self.begin_below(below);
+    /// Turns to what it does next.
+    fn turn_to(&mut self, stage: Stage<'a>) {
+        self.stage = stage;
+    }
+
+    /// Begins a dive below a ceiling.
+    fn begin_dive(&mut self, ceiling: i32) -> Result<()> {
+        if let Some(walks) = &self.walks {
+            let (instance, limits) = (self.instance, self.limits);
+            let first = FirstSearch::new(instance, walks, limits, self.done, Some(ceiling))?;
+            self.turn_to(Stage::First(first));
         }
-        let walks = Walks::new(self.instance)?;
-        if !walks.has_loop() && !self.instance.asks_too_much() {
-            self.walks = Some(walks);
-            self.begin_first(None)?;
-        }
-        Ok(())
-    }
-
-    /// Schedules end before this, whatever is known.
-    fn last_ceiling(&self) -> i32 {
-        self.instance.horizon.wrapping_add(1)
-    }
-
-    /// An engine for schedules that end before a ceiling, over the longest walks.
-    fn open(
-        &self,
-        walks: Walks,
-        ceiling: i32,
-        has_log: bool,
-        has_cliques: bool,
-    ) -> Result<Engine<'a>> {
-        let SolverOptions { seed, slots, .. } = self.limits;
-        let options = Options {
-            most: ceiling.wrapping_sub(1),
-            has_log,
-            has_cliques,
-            seed,
-            slots,
-            done: self.done,
-        };
-        Engine::open(self.instance, walks, options)
-    }
-
-    /// Begins to look for schedules below an end.
-    fn begin_below(&mut self, below: i32) -> Result<()> {
-        let arc = Lag {
-            from: self.instance.end() as usize,
-            to: 0,
-            weight: 1i64.wrapping_sub(i64::from(below)),
-        };
-        let cubed = CubeSearch::open(self.instance, self.limits, None, &[arc])?;
-        if let Cubed::Search(search) = cubed {
-            self.stage = Stage::Below(search);
-        }
-        Ok(())
-    }
-
-    /// Begins the search at the root, which keeps a log, or a dive below a ceiling.
-    fn begin_first(&mut self, dive: Option<i32>) -> Result<()> {
-        let Some(walks) = &self.walks else {
-            return Ok(());
-        };
-        let (walks, last) = (walks.try_copy()?, self.last_ceiling());
-        let ceiling = dive.unwrap_or(last).min(last);
-        let mut engine = self.open(walks, ceiling, dive.is_none(), false)?;
-        let most = if dive.is_some() { DIVE } else { ROOT };
-        let run = engine.start(Vec::new(self.instance.alloc), most, Pace::default())?;
-        self.stage = Stage::First(FirstSearch { engine, run, dive });
         Ok(())
     }
 
     /// Strategies begin to take turns, with a first schedule or none.
     fn begin_turns(&mut self, start: Option<Vec<i32>>) -> Result<()> {
-        let mut ceiling = self.last_ceiling();
+        let mut ceiling = last_ceiling(self.instance);
         if let Some(starts) = &start {
             ceiling = starts.last().copied().unwrap_or(ceiling);
         }
         let Some(walks) = self.walks.take() else {
             return Ok(());
         };
-        self.stage = Stage::Turns(self.turns_over(walks, ceiling)?);
+        let turns = self.turns_over(walks, ceiling)?;
+        self.turn_to(Stage::Turns(turns));
         if let (Some(starts), Stage::Turns(turns)) = (&start, &mut self.stage) {
             turns.take(starts, Finder::Dive)?;
         }
@@ -184,17 +196,21 @@ impl<'a> Solver<'a> {
 
     /// The turns of strategies below a ceiling, over the longest walks.
     fn turns_over(&self, walks: Walks, ceiling: i32) -> Result<Turns<'a>> {
-        let engine = self.open(walks, ceiling, true, true)?;
-        Turns::new(self.instance, engine, ceiling, self.limits.seed)
+        let SolverOptions { seed, .. } = self.limits;
+        let strategies = Strategies::new(self.instance.alloc)?;
+        let options = self.limits.engine(ceiling, self.done);
+        let engine = Engine::open(self.instance, walks, options)?;
+        Ok(Turns::new(self.instance, engine, strategies, ceiling, seed))
     }
 
     /// Strategies begin to take turns with the engine that looked for a first schedule.
     fn keep_engine(&mut self) -> Result<()> {
+        let strategies = Strategies::new(self.instance.alloc)?;
         if let Stage::First(first) = mem::replace(&mut self.stage, Stage::Ready(None)) {
             let FirstSearch { engine, .. } = first;
-            let ceiling = self.last_ceiling();
-            let turns = Turns::new(self.instance, engine, ceiling, self.limits.seed)?;
-            self.stage = Stage::Turns(turns);
+            let (ceiling, seed) = (last_ceiling(self.instance), self.limits.seed);
+            let turns = Turns::new(self.instance, engine, strategies, ceiling, seed);
+            self.turn_to(Stage::Turns(turns));
         }
         Ok(())
     }
@@ -202,7 +218,7 @@ impl<'a> Solver<'a> {
     /// A first schedule is known, and put early. Strategies take turns from the next step on.
     fn begin_with(&mut self, starts: &[i32]) -> Result<()> {
         let (early, _) = shortened(self.instance, starts)?;
-        self.stage = Stage::Ready(Some(early));
+        self.turn_to(Stage::Ready(Some(early)));
         Ok(())
     }
 
@@ -213,7 +229,7 @@ impl<'a> Solver<'a> {
             first.engine.log.forget_all()?;
             let mut events = first.engine.log.take();
             self.told.append(&mut events)?;
-            self.stage = Stage::Ready(None);
+            self.turn_to(Stage::Ready(None));
         }
         Ok(())
     }
@@ -282,9 +298,9 @@ impl<'a> Solver<'a> {
     fn search_elsewhere(&mut self, found: SubsearchState, dive: Option<i32>) -> Result<()> {
         self.retire()?;
         match (found, dive) {
-            (SubsearchState::Stopped, None) => self.begin_first(Some(self.likely_ceiling())),
+            (SubsearchState::Stopped, None) => self.begin_dive(self.likely_ceiling()),
             (SubsearchState::Refuted, Some(ceiling)) if ceiling <= self.instance.horizon => {
-                self.begin_first(Some(ceiling.saturating_mul(2)))
+                self.begin_dive(ceiling.saturating_mul(2))
             }
             _ => self.begin_turns(None),
         }

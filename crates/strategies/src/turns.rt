@@ -62,7 +62,7 @@ struct Turn {
 
 /// What is known of strategies.
 #[derive(Drop)]
-struct Strategies {
+pub(crate) struct Strategies {
     effort: Accounts,
     /// How many activities are free, in hundredths, by strategy.
     sizes: Table<u64>,
@@ -72,7 +72,7 @@ struct Strategies {
 
 impl Strategies {
     /// Nothing was done yet.
-    fn new(alloc: Global) -> Result<Strategies> {
+    pub(crate) fn new(alloc: Global) -> Result<Strategies> {
         let count = WAYS.len().wrapping_add(FIRST_NEAR as usize);
         Ok(Strategies {
             effort: Accounts::new(alloc, count)?,
@@ -122,11 +122,11 @@ impl<'a> Turns<'a> {
     pub(crate) fn new(
         instance: &'a Instance,
         engine: Engine<'a>,
+        strategies: Strategies,
         ceiling: i32,
         seed: u64,
-    ) -> Result<Turns<'a>> {
-        let strategies = Strategies::new(instance.alloc)?;
-        Ok(Turns {
+    ) -> Turns<'a> {
+        Turns {
             instance,
             engine,
             best: None,
@@ -141,7 +141,7 @@ impl<'a> Turns<'a> {
             has_probed: false,
             random: Random::new(seed),
             turn: None,
-        })
+        }
     }
 
     /// The end that the whole search looks for, shorter than the best by a step, and how many conflicts it may meet.
