@@ -111,14 +111,13 @@ fn solve_command<'a>(alloc: Global, heading: &'a str) -> Result<Command<'a>, All
     let json = "Print the answer as one line of JSON";
     let record = "Write a record that proves the answer into FILE";
     let about = "Print a shortest schedule of a project";
-    subcommand(alloc, heading, "solve", about, help::SOLVE)
-        .arg(number(alloc, "nodes", "L", nodes, 1, MAX_EXPANDED as i64).default_value(
-            DEFAULT_EXPANDED,
-        ))?
-        .arg(number(alloc, "workers", "N", threads, 1, MAX_WORKERS as i64))?
-        .arg(file(alloc, "start", start))?
-        .arg(flag(alloc, "json", json))?
-        .arg(file(alloc, "record", record))
+    subcommand(alloc, heading, "solve", about, help::SOLVE).args(vec![in alloc;
+        number(alloc, "nodes", "L", nodes, 1, MAX_EXPANDED as i64).default_value(DEFAULT_EXPANDED),
+        number(alloc, "workers", "N", threads, 1, MAX_WORKERS as i64),
+        file(alloc, "start", start),
+        flag(alloc, "json", json),
+        file(alloc, "record", record),
+    ]?)
 }
 
 fn command<'a>(alloc: Global, heading: &'a str) -> Result<Command<'a>, AllocError> {
