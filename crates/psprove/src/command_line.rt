@@ -69,13 +69,14 @@ fn with_limits<'a>(alloc: Global, command: Command<'a>) -> Result<Command<'a>, A
     let jobs = "Run N searches side by side, each in its own thread, 1 to 64";
     let seed = "Break ties by the seed K";
     let memory = "Limit the lemmas of each search to MIB MiB";
-    command
-        .arg(number(alloc, "seconds", "S", seconds, 0, MAX_LIMIT).default_value(DEFAULT_SECONDS))?
-        .arg(number(alloc, "conflicts", "N", conflicts, 0, MAX_LIMIT))?
-        .arg(file(alloc, "until", until))?
-        .arg(number(alloc, "jobs", "N", jobs, 1, MAX_JOBS as i64).default_value(DEFAULT_JOBS))?
-        .arg(number(alloc, "seed", "K", seed, 0, MAX_LIMIT))?
-        .arg(number(alloc, "memory", "MIB", memory, 1, MAX_MEMORY).default_value(DEFAULT_MEMORY))
+    command.args(vec![in alloc;
+        number(alloc, "seconds", "S", seconds, 0, MAX_LIMIT).default_value(DEFAULT_SECONDS),
+        number(alloc, "conflicts", "N", conflicts, 0, MAX_LIMIT),
+        file(alloc, "until", until),
+        number(alloc, "jobs", "N", jobs, 1, MAX_JOBS as i64).default_value(DEFAULT_JOBS),
+        number(alloc, "seed", "K", seed, 0, MAX_LIMIT),
+        number(alloc, "memory", "MIB", memory, 1, MAX_MEMORY).default_value(DEFAULT_MEMORY),
+    ]?)
 }
 
 /// An option that takes a form of reports, or none.
@@ -126,13 +127,15 @@ fn solve_command<'a>(alloc: Global, heading: &'a str) -> Result<Command<'a>, All
     let json = "Print the answer as one line of JSON";
     let record = "Write the record that proves the answer into FILE";
     let resume = "Go on from the record in FILE";
+    let options = vec![in alloc;
+        file(alloc, "start", start),
+        file(alloc, "resume", resume),
+        flag(alloc, "json", json),
+        file(alloc, "record", record),
+        progress(alloc),
+    ]?;
     let command = subcommand(alloc, heading, "solve", about, help::SOLVE);
-    let command = with_limits(alloc, command)?
-        .arg(file(alloc, "start", start))?
-        .arg(file(alloc, "resume", resume))?
-        .arg(flag(alloc, "json", json))?
-        .arg(file(alloc, "record", record))?
-        .arg(progress(alloc))?;
+    let command = with_limits(alloc, command)?.args(options)?;
     with_cube(alloc, command)
 }
 
@@ -142,11 +145,13 @@ fn join_command<'a>(alloc: Global, heading: &'a str) -> Result<Command<'a>, Allo
     let start = "Begin with the feasible schedule in FILE";
     let json = "Print the answer as one line of JSON";
     let record = "Write the record that proves the answer into FILE";
-    project_subcommand(alloc, heading, "join", about, help::JOIN)?
-        .arg(file(alloc, "tree", tree).required(true))?
-        .arg(file(alloc, "start", start))?
-        .arg(flag(alloc, "json", json))?
-        .arg(file(alloc, "record", record))
+    let options = vec![in alloc;
+        file(alloc, "tree", tree).required(true),
+        file(alloc, "start", start),
+        flag(alloc, "json", json),
+        file(alloc, "record", record),
+    ]?;
+    project_subcommand(alloc, heading, "join", about, help::JOIN)?.args(options)
 }
 
 fn command<'a>(alloc: Global, heading: &'a str) -> Result<Command<'a>, AllocError> {
