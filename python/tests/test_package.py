@@ -153,8 +153,3 @@ class Installed(InFolder):
         self.assertEqual(self.run_there(*dpkg, "-r", "psmax").returncode, 0)
         left = [path for path in (root / "usr").rglob("*") if path.is_file() and path.suffix != ".pyc"]
         self.assertEqual(left, [])
-
-    @unittest.skipUnless(shutil.which("mypy") and shutil.which("flake8"), "mypy or flake8 isn't here")
-    def test_lint(self) -> None:
-        ran = subprocess.run(["make", "-s", "lint"], cwd=TOP, capture_output=True, text=True)
-        self.assertEqual(ran.returncode, 0, ran.stdout)
