@@ -1,7 +1,7 @@
 //! The search of a cube: the whole search, under a path.
 
 use crate::shortened;
-use crate::solver::{SolverOptions, last_ceiling};
+use crate::solver::{SolverOptions, last_ceiling, open_engine};
 use engine::{
     Engine, LoggedEvent, Options, Pace, Path, Piece, SearchCounts, Subsearch, SubsearchState,
 };
@@ -16,7 +16,7 @@ use propagation::Literal;
 #[derive(Drop)]
 pub struct CubeSearch<'a> {
     instance: &'a Instance,
-    pub(crate) engine: Engine<'a>,
+    pub(crate) engine: Box<Engine<'a>>,
     /// The decisions of the path.
     path: Vec<Literal>,
     run: Subsearch,
@@ -82,7 +82,7 @@ impl<'a> CubeSearch<'a> {
         memory: u64,
         arcs: &[Lag],
     ) -> Result<Cubed<'a>> {
-        let mut engine = Engine::open(instance, walks, options)?;
+        let mut engine = open_engine(instance, walks, options)?;
         Ok(match begin_under(&mut engine, instance, arcs)? {
             Begun::Other(place) => Cubed::Other(place),
             Begun::Under(path, run, is_refuted) => Cubed::Search(CubeSearch {

@@ -53,18 +53,28 @@ const DIVE: u64 = 5_000;
 /// How often a search forgets lemmas where it has no room, before it stops.
 const REDUCTIONS: u64 = 6;
 
-/// A search for a first schedule: with a few conflicts at the root, below the horizon, or in a dive below a ceiling.
-#[derive(Drop)]
-struct FirstSearch<'a> {
-    engine: Engine<'a>,
-    run: Subsearch,
-    /// The ceiling of a dive, which starts one activity after the other as early as it can.
-    dive: Option<i32>,
-}
-
 /// Schedules end before this, whatever is known.
 pub(crate) fn last_ceiling(instance: &Instance) -> i32 {
     instance.horizon.wrapping_add(1)
+}
+
+/// An engine in a box, since a move or a drop of one is large.
+pub(crate) fn open_engine<'a>(
+    instance: &'a Instance,
+    walks: Walks,
+    options: Options,
+) -> Result<Box<Engine<'a>>> {
+    let engine = Engine::open(instance, walks, options)?;
+    Ok(Box::new(instance.alloc, engine)?)
+}
+
+/// A search for a first schedule: with a few conflicts at the root, below the horizon, or in a dive below a ceiling.
+#[derive(Drop)]
+struct FirstSearch<'a> {
+    engine: Box<Engine<'a>>,
+    run: Subsearch,
+    /// The ceiling of a dive, which starts one activity after the other as early as it can.
+    dive: Option<i32>,
 }
 
 impl<'a> FirstSearch<'a> {
@@ -80,7 +90,7 @@ impl<'a> FirstSearch<'a> {
         let mut options = limits.engine(dive.unwrap_or(last).min(last), done);
         options.has_log = dive.is_none();
         options.has_cliques = false;
-        let mut engine = Engine::open(instance, walks.try_copy()?, options)?;
+        let mut engine = open_engine(instance, walks.try_copy()?, options)?;
         let most = if dive.is_some() { DIVE } else { ROOT };
         let run = engine.start(Vec::new(instance.alloc), most, Pace::default())?;
         Ok(FirstSearch { engine, run, dive })
@@ -162,8 +172,8 @@ impl<'a> Solver<'a> {
         })
     }
 
-    /// Turns to what it does next.
-    fn turn_to(&mut self, stage: Stage<'a>) {
+    /// Enters a stage. This is the one place where an old stage is dropped.
+    fn enter(&mut self, stage: Stage<'a>) {
         self.stage = stage;
     }
 
@@ -172,7 +182,7 @@ impl<'a> Solver<'a> {
         if let Some(walks) = &self.walks {
             let (instance, limits) = (self.instance, self.limits);
             let first = FirstSearch::new(instance, walks, limits, self.done, Some(ceiling))?;
-            self.turn_to(Stage::First(first));
+            self.enter(Stage::First(first));
         }
         Ok(())
     }
@@ -187,7 +197,7 @@ impl<'a> Solver<'a> {
             return Ok(());
         };
         let turns = self.turns_over(walks, ceiling)?;
-        self.turn_to(Stage::Turns(turns));
+        self.enter(Stage::Turns(turns));
         if let (Some(starts), Stage::Turns(turns)) = (&start, &mut self.stage) {
             turns.take(starts, Finder::Dive)?;
         }
@@ -196,11 +206,10 @@ impl<'a> Solver<'a> {
 
     /// The turns of strategies below a ceiling, over the longest walks.
     fn turns_over(&self, walks: Walks, ceiling: i32) -> Result<Turns<'a>> {
-        let SolverOptions { seed, .. } = self.limits;
-        let strategies = Strategies::new(self.instance.alloc)?;
-        let options = self.limits.engine(ceiling, self.done);
-        let engine = Engine::open(self.instance, walks, options)?;
-        Ok(Turns::new(self.instance, engine, strategies, ceiling, seed))
+        let (instance, limits) = (self.instance, self.limits);
+        let strategies = Strategies::new(instance.alloc)?;
+        let engine = open_engine(instance, walks, limits.engine(ceiling, self.done))?;
+        Ok(Turns::new(instance, engine, strategies, ceiling, limits.seed))
     }
 
     /// Strategies begin to take turns with the engine that looked for a first schedule.
@@ -210,7 +219,7 @@ impl<'a> Solver<'a> {
             let FirstSearch { engine, .. } = first;
             let (ceiling, seed) = (last_ceiling(self.instance), self.limits.seed);
             let turns = Turns::new(self.instance, engine, strategies, ceiling, seed);
-            self.turn_to(Stage::Turns(turns));
+            self.enter(Stage::Turns(turns));
         }
         Ok(())
     }
@@ -218,7 +227,7 @@ impl<'a> Solver<'a> {
     /// A first schedule is known, and put early. Strategies take turns from the next step on.
     fn begin_with(&mut self, starts: &[i32]) -> Result<()> {
         let (early, _) = shortened(self.instance, starts)?;
-        self.turn_to(Stage::Ready(Some(early)));
+        self.enter(Stage::Ready(Some(early)));
         Ok(())
     }
 
@@ -229,7 +238,7 @@ impl<'a> Solver<'a> {
             first.engine.log.forget_all()?;
             let mut events = first.engine.log.take();
             self.told.append(&mut events)?;
-            self.turn_to(Stage::Ready(None));
+            self.enter(Stage::Ready(None));
         }
         Ok(())
     }
@@ -247,9 +256,9 @@ impl<'a> Solver<'a> {
     /// The engine at work.
     fn engine_mut(&mut self) -> Option<&mut Engine<'a>> {
         match &mut self.stage {
-            Stage::First(first) => Some(&mut first.engine),
-            Stage::Turns(turns) => Some(&mut turns.engine),
-            Stage::Below(search) => Some(&mut search.engine),
+            Stage::First(first) => Some(first.engine.as_mut()),
+            Stage::Turns(turns) => Some(turns.engine.as_mut()),
+            Stage::Below(search) => Some(search.engine.as_mut()),
             _ => None,
         }
     }
