@@ -301,19 +301,6 @@ fn search_from_board<R: Clock + Eprint + Wait, J: Naming, P: Pause<J>>(
     Ok(())
 }
 
-/// The search of a job, within limits, in the project as the search has it.
-fn search_instance<R: Clock + Eprint + Wait, J: Naming, P: Pause<J>>(
-    rt: &R,
-    alloc: Global,
-    instance: &Instance,
-    run: &JobContext<'_, '_, J>,
-    job: u64,
-    pause: &mut P,
-) -> Result<(), AllocError> {
-    let mut searcher = begun(alloc, instance, run, job)?;
-    search_from_board(rt, run, pause, &mut searcher)
-}
-
 /// The search of a job, within limits.
 fn search<R: Clock + Eprint + Wait, J: Naming, P: Pause<J>>(
     rt: &R,
@@ -323,7 +310,8 @@ fn search<R: Clock + Eprint + Wait, J: Naming, P: Pause<J>>(
     pause: &mut P,
 ) -> Result<(), AllocError> {
     let instance = Instance::new(alloc, run.project)?;
-    search_instance(rt, alloc, &instance, run, job, pause)
+    let mut searcher = begun(alloc, &instance, run, job)?;
+    search_from_board(rt, run, pause, &mut searcher)
 }
 
 /// A search within limits, one of several side by side. All end once they are asked to.
