@@ -1,14 +1,8 @@
-//! A call: a job of psmax, and the names of files, of psprove too.
+//! A call of psmax: a job and the names of its files, or the check of a record.
 
 use crate::verifying::VerifyCall;
+use call_files::FileNames;
 use runs::Job;
-
-/// The names of the files that a call uses: its second input, and the output of its record.
-#[derive(Debug, Drop)]
-pub struct FileNames {
-    pub second: Option<String>,
-    pub record_file: Option<String>,
-}
 
 /// A job, and the names of its files.
 #[derive(Debug, Drop)]

@@ -4,13 +4,14 @@ ghost use Rattle.std.specs.Prelude.{◌≡◌, true, false, IfOk, IfSome};
 ghost use Rattle.calls.specs.Calls.{IsCall, IsPsmaxCall};
 ghost use Rattle.runs.specs.Outcome.{IsJob, reads_second, writes_record};
 
-use crate::call::{Call, FileNames, PsmaxCall};
+use crate::call::{Call, PsmaxCall};
 use crate::help;
 use crate::options::{
     file, flag, heading, number, program_command, project_subcommand, subcommand,
 };
 use crate::verifying::{verify_call, verify_command};
 use book::{MAX_WORKERS, are_allowed};
+use call_files::FileNames;
 use clap::error::ErrorKind;
 use clap::{ArgMatches, Command};
 use plain_search::MAX_EXPANDED;

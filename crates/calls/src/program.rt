@@ -1,9 +1,8 @@
 //! What both programs do around a call: they read its words, and print why it has no answer.
 
-use crate::call::FileNames;
 use crate::command_line::ArgumentsFault;
-use crate::files::FileFault;
 use answers::Fault;
+use call_files::{FileFault, FileNames};
 use runs::Ended;
 use std::env::{self, Env};
 use std::io::ErrorKind;

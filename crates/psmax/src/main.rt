@@ -6,9 +6,9 @@ ghost use Rattle.runs.specs.Outcome.{IsJob, has_workers};
 ghost use Rattle.runs.specs.declared.job.Job.TheVariants as jobs;
 ghost use Rattle.std.specs.Prelude.{◌≡◌, false, true, IfOk};
 
+use call_files::Opener;
 use calls::{
-    ArgumentsFault, Call, FOLDER, Opener, PsmaxCall, call_of, refuse, refuse_files, report, verify,
-    words,
+    ArgumentsFault, Call, FOLDER, PsmaxCall, call_of, refuse, refuse_files, report, verify, words,
 };
 use psmax_run::run_parallel;
 use runs::{InputReader, OutputWriter, RecordKind, SearchOptions, run};

@@ -5,7 +5,8 @@ use crate::following::{Followed, Heard};
 use crate::host::read_file;
 use crate::record_file::RecordFile;
 use answers::{Answer, Fault};
-use calls::{Opener, refuse_file, report};
+use call_files::Opener;
+use calls::{refuse_file, report};
 use cubes::{
     Cube, CubeFault, CubeLemma, CubeResult, Limit, TextFault, lemmas_of, path_of, search_cube,
 };

@@ -2,9 +2,9 @@
 
 ghost use Rattle.std.specs.Prelude.{◌≡◌};
 
+use shared_book::{BestSeat, SharedCeiling};
 use std::test::Fail;
 use std::thread;
-use worker::{BestSeat, SharedCeiling};
 
 #[test]
 fn a_look_finds_the_least_offer(rt: HostRuntime) -> Result<(), Fail> {

@@ -6,12 +6,13 @@ ghost use Rattle.branching.specs.Path.{IsAt};
 
 use branching::{OpenNode, Report, Searcher};
 use network::Schedule;
+use shared_book::{Key, Shared};
 use std::alloc::{AllocError, Global};
 use std::sync::atomic::{AtomicU64, Ordering};
 use std::sync::ledger::Ledger;
 use std::sync::{Arc, Mutex, Wait};
 use std::thread;
-use worker::{Gate, Key, Moment, Shared};
+use worker::{Gate, Moment};
 
 /// Whom a gate holds.
 #[derive(Clone, Copy, Debug, PartialEq, Eq)]

@@ -1,4 +1,2 @@
-pub mod Desks
+pub mod Serving
 pub mod Solving
-pub mod Locking
-pub mod Ceiling

@@ -1,6 +1,6 @@
 -- What a search by workers says in the end.
 use Rattle.std.specs.Prelude.{◌≡◌, ◌+◌, ◌<◌, ◌≤ℤ◌, ◌↔◌, ℕ, ℤ, Bool, true, false, List, [], ◌∷◌, Option, None, Some}
-use Rattle.std.specs.Prelude.{IfSome, IsSomeAnd, length, sum, vec_len, ◌≢◌, ◌⊎◌, Result, Ok, Err}
+use Rattle.std.specs.Prelude.{IfSome, IsSomeAnd, length, sum, vec_len, ◌≢◌, Result, Ok, Err}
 use Rattle.std.specs.Option.{option_or}
 use Rattle.std.specs.Result.{result_err}
 use Rattle.network.specs.Problem.{Problem}
@@ -18,12 +18,10 @@ use Rattle.worker.specs.declared.solution.Solved.{Solved}
 use Rattle.book.specs.Steps.{AreAllowed, Improves}
 use Rattle.book.specs.declared.answers.BookFault.{BookFault}
 use Rattle.book.specs.declared.answers.BookFault.TheVariants as book_fault
-use Rattle.book.specs.declared.answers.CheckFault.{CheckFault}
-use Rattle.book.specs.declared.answers.CheckFault.TheVariants as check_fault
 use Rattle.worker.specs.declared.fault.SolveFault.{SolveFault}
 use Rattle.worker.specs.declared.fault.SolveFault.TheVariants as fault
-use Rattle.worker.specs.declared.fault.WorkFault.{WorkFault}
-use Rattle.worker.specs.declared.fault.WorkFault.TheVariants as work_fault
+use Rattle.shared_book.specs.declared.fault.WorkFault.{WorkFault}
+use Rattle.shared_book.specs.declared.fault.WorkFault.TheVariants as work_fault
 
 -- the search was stopped before it was over
 abbrev pub IsStopped : Outcome → Type 0
@@ -94,10 +92,6 @@ abbrev pub EndsSearch : Bool → Option WorkFault → Result (Unit {0}) SolveFau
 EndsSearch false first ended = ended ≡ Err fault.Thread
 EndsSearch true None ended = ended ≡ Ok tt
 EndsSearch true (Some why) ended = (found : SolveFault) × (ended ≡ Err found) × IsWorkFault why found
-
--- why a node can't be given back
-abbrev pub IsOfGivingBack : CheckFault → Type 0
-IsOfGivingBack found = (found ≡ check_fault.Unknown) ⊎ ((found ≡ check_fault.NotInHand) ⊎ (found ≡ check_fault.Memory))
 
 -- a fault of a search that may have so many workers and takes
 abbrev pub IsNotLimit : SolveFault → Type 0

@@ -1,6 +1,7 @@
 //! What can go wrong in a search by workers.
 
 use book::{BookFault, CheckFault};
+use shared_book::WorkFault;
 use std::alloc::AllocError;
 
 /// Why a search by workers has no outcome.
@@ -41,13 +42,6 @@ impl From<BookFault> for SolveFault {
             BookFault::Memory => SolveFault::Memory,
         }
     }
-}
-
-/// Why a worker ended before the search was over.
-#[derive(Clone, Copy, Debug, PartialEq, Eq)]
-pub(crate) enum WorkFault {
-    Memory,
-    Refused(CheckFault),
 }
 
 impl From<WorkFault> for SolveFault {

@@ -6,20 +6,18 @@ ghost use Rattle.std.specs.Bool.{OnTrue};
 ghost use Rattle.network.specs.Schedule.{makespan};
 ghost use Rattle.book.specs.State.{AddUp, counts_of};
 ghost use Rattle.plain_search.specs.Verdicts.{IsTrueOf};
-ghost use Rattle.worker.specs.Desks.{HasTold, IsRow};
+ghost use Rattle.shared_book.specs.Desks.{IsRow};
+ghost use Rattle.worker.specs.Serving.{HasTold};
 ghost use Rattle.worker.specs.Solving.{IsNotLimit, RefusesLimits, HasBestWithin, IsBestAfter, IsOutcomeAfter, IsOutcomeOf, IsSolution, IsTrailOf};
 
-use crate::blanks::Blanks;
 use crate::fault::SolveFault;
 use crate::gate::Gate;
-use crate::key::Key;
-use crate::shared::Shared;
-use crate::state::{Tally, WorkerState};
 use crate::threads::run_workers;
 use book::{Book, Counts, NodesLeft, are_allowed};
 use network::{Project, Schedule, Verdict};
 use plain_search::Outcome;
 use search_log::SearchLog;
+use shared_book::{Blanks, Key, Shared, Tally, WorkerState};
 use std::alloc::{AllocError, Global};
 use std::marker::Brand;
 use std::sync::ledger::Ledger;
@@ -188,6 +186,26 @@ fn conclude<R: Threads>(
     Ok((solved, trail))
 }
 
+/// Offers the start, if there is one, and runs the workers. Their desks.
+fn run_from<L: Ledger + Send + Sync, S: Ledger + Send + Sync, G: Gate, R: Threads + Wait + Sync>(
+    rt: &R,
+    alloc: Global,
+    shared: &Shared<L, S>,
+    mut key: Key<S>,
+    mut desks: Vec<WorkerState<L, S>>,
+    start: Option<Schedule>,
+    gate: &G,
+) -> Result<Vec<WorkerState<L, S>>, SolveFault>
+    requires { IsRow shared.now desks.items }
+    ensures count { IfOk result (λ back. vec_len back ≡ vec_len desks) }
+    ensures fault { IfErr result IsNotLimit }
+{
+    if let Some(start) = start {
+        offer_start(rt, shared, &mut key, &mut desks, start)?;
+    }
+    run_workers(rt, alloc, shared, key, desks, gate)
+}
+
 /// Searches with a book that has checked nothing in, and that allows so many workers and takes.
 fn search_with<L: Ledger + Send + Sync, S: Ledger + Send + Sync, G: Gate, R: Threads + Wait + Sync>(
     rt: &R,
@@ -209,11 +227,8 @@ fn search_with<L: Ledger + Send + Sync, S: Ledger + Send + Sync, G: Gate, R: Thr
     ensures fault { IfErr result IsNotLimit }
 {
     let again = copy_of(alloc, &start)?;
-    let (shared, mut desks, mut key) = Shared::<L, S>::open(alloc, blanks, book, workers)?;
-    if let Some(start) = start {
-        offer_start(rt, &shared, &mut key, &mut desks, start)?;
-    }
-    let desks = run_workers(rt, alloc, &shared, key, desks, gate)?;
+    let (shared, desks, key) = Shared::<L, S>::open(alloc, blanks, book, workers)?;
+    let desks = run_from(rt, alloc, &shared, key, desks, start, gate)?;
     let (book, tallies) = shared.close(alloc, desks)?;
     conclude(rt, alloc, project, takes, again, book, tallies.as_slice())
 }

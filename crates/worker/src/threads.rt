@@ -1,14 +1,13 @@
 //! Starts the threads of workers, and joins them.
 
 ghost use Rattle.std.specs.Prelude.{◌≡◌, ◌≤◌, IfOk, IfErr, vec_len, vec_capacity, [], true};
-ghost use Rattle.worker.specs.Desks.{IsRow};
+ghost use Rattle.shared_book.specs.Desks.{IsRow};
 ghost use Rattle.worker.specs.Solving.{EndsSearch, IsNotLimit, first_fault};
 
-use crate::fault::{SolveFault, WorkFault};
+use crate::fault::SolveFault;
 use crate::gate::Gate;
-use crate::key::Key;
-use crate::shared::Shared;
-use crate::state::WorkerState;
+use crate::serving::serve_to_end;
+use shared_book::{Key, Shared, WorkFault, WorkerState};
 use std::alloc::Global;
 use std::sync::Wait;
 use std::sync::ledger::Ledger;
@@ -116,7 +115,7 @@ fn start_workers<
             requires { desk.seat.ceiling ≡ shared.now.best }
         {
             let mut desk = desk;
-            let ended = shared.serve_to_end(rt, alloc, &mut desk, gate);
+            let ended = serve_to_end(rt, alloc, shared, &mut desk, gate);
             (desk, ended)
         };
         let Ok(handle) = scope.spawn(worker) else {

@@ -1,7 +1,7 @@
 //! One worker at a desk, or two at desks of one book, and what they leave.
 
 ghost use Rattle.std.specs.Prelude.{◌≡◌, IfOk};
-ghost use Rattle.worker.specs.Desks.{SeatedAt};
+ghost use Rattle.shared_book.specs.Desks.{SeatedAt};
 
 use crate::gates::{HoldingGate, Holds, Meddler, Waker};
 use crate::workers::asked::{WorkerRow, asked_by, schedule_of};
@@ -9,6 +9,7 @@ use crate::workers::solving::{numbers, starts_of};
 use book::{Book, CheckFault, Take};
 use network::Schedule;
 use node_tests::one_machine;
+use shared_book::{Blanks, Key, Shared, Tally, WorkerState};
 use std::alloc::Global;
 use std::marker::Brand;
 use std::sync::atomic::{AtomicU64, Ordering};
@@ -17,7 +18,7 @@ use std::sync::{Arc, Mutex, Wait};
 use std::test::Fail;
 use std::thread;
 use std::thread::Threads;
-use worker::{Blanks, Key, Shared, SolveFault, Tally, WorkerState, work};
+use worker::{SolveFault, work};
 
 /// How a worker ended; its number, and how many of its reports its desk counts as accepted and as ahead; what the gate
 /// heard, and how often it was called.

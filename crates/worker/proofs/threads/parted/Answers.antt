@@ -2,7 +2,7 @@ use Rattle.std.proofs.Common.{rules, arith, ◌∷◌, [], ◌∙◌, ap, sym}
 use Rattle.std.specs.Option.{option_or}
 use Rattle.std.proofs.lemmas.List.{length-append}
 use Rattle.worker.specs.Solving.{first_fault}
-use Rattle.worker.proofs.Rows.{first_fault_snoc}
+use Rattle.worker.proofs.Ends.{first_fault_snoc}
 use Rattle.worker.proofs.threads.parted.Goals as goal
 
 pub loop-desk-preserved : goal.loop-desk-preserved

@@ -1,5 +1,5 @@
 use Rattle.std.proofs.Common.{◌≡◌, ◌+◌, length, vec_len, vec_capacity}
-use Rattle.worker.specs.Desks.{IsRowAt}
+use Rattle.shared_book.specs.Desks.{IsRowAt}
 use Rattle.worker.proofs.threads.start_workers.Given as goal
 
 abbrev pub invariant-loop-desk : goal.invariant-loop-desk

@@ -1,6 +1,0 @@
-use Rattle.std.proofs.Common.{rules}
-use Rattle.worker.proofs.CeilingSteps.{sees}
-use Rattle.worker.proofs.shared_ceiling.SharedCeiling.look.Goals as goal
-
-pub load-requires : goal.load-requires
-load-requires c = (search rules, search rules, sees _ _ _)
