@@ -121,17 +121,23 @@ fn solve_command<'a>(alloc: Global, heading: &'a str) -> Result<Command<'a>, All
     ]?)
 }
 
-fn command<'a>(alloc: Global, heading: &'a str) -> Result<Command<'a>, AllocError> {
-    let about = "Solve projects with resources and time lags, with every answer proved";
+fn commands<'a>(alloc: Global, heading: &'a str) -> Result<Vec<Command<'a>>, AllocError> {
     let earliest = "Print the earliest starts by a project's time lags alone";
     let check = "Check starts against a project in a file";
     let tidy = "Print the canonical text of a project";
-    program_command(alloc, "psmax", heading, about, help::PROGRAM)?
-        .subcommand(subcommand(alloc, heading, "earliest", earliest, help::EARLIEST))?
-        .subcommand(solve_command(alloc, heading)?)?
-        .subcommand(project_subcommand(alloc, heading, "check", check, help::CHECK)?)?
-        .subcommand(subcommand(alloc, heading, "tidy", tidy, help::TIDY))?
-        .subcommand(verify_command(alloc, heading)?)
+    let mut commands = Vec::with_capacity(alloc, 5)?;
+    commands.push_reserved(subcommand(alloc, heading, "earliest", earliest, help::EARLIEST));
+    commands.push_reserved(solve_command(alloc, heading)?);
+    commands.push_reserved(project_subcommand(alloc, heading, "check", check, help::CHECK)?);
+    commands.push_reserved(subcommand(alloc, heading, "tidy", tidy, help::TIDY));
+    commands.push_reserved(verify_command(alloc, heading)?);
+    Ok(commands)
+}
+
+fn program<'a>(alloc: Global, heading: &'a str) -> Result<Command<'a>, AllocError> {
+    let about = "Solve projects with resources and time lags, with every answer proved";
+    let commands = commands(alloc, heading)?;
+    program_command(alloc, "psmax", heading, about, help::PROGRAM)?.subcommands(commands)
 }
 
 fn earliest_call() -> Call
@@ -240,7 +246,7 @@ pub fn call_of(alloc: Global, words: &[String]) -> Result<PsmaxCall, ArgumentsFa
     ensures { IfOk result IsPsmaxCall }
 {
     let heading = heading(alloc, "psmax")?;
-    let matches = matches_of(alloc, command(alloc, &heading)?, words)?;
+    let matches = matches_of(alloc, program(alloc, &heading)?, words)?;
     found(alloc, &matches)?.ok_or(ArgumentsFault::Bad {
         text: String::new(alloc),
     })

@@ -29,6 +29,9 @@ const MAX_LIMIT: i64 = 1_000_000_000;
 /// The greatest makespan of `--below`.
 const MAX_BELOW: i64 = 1_002_000_000;
 
+/// The option that has a cube searched, without which its other options have no meaning.
+const UNDER: &str = "under";
+
 /// The forms of `--progress`.
 const FORMS: &[&str] = &["lines", "json"];
 
@@ -62,14 +65,14 @@ pub(crate) struct SolveCall {
 const MAX_PIECES: i64 = 1_024;
 
 /// The options that say how far a search goes.
-fn with_limits<'a>(alloc: Global, command: Command<'a>) -> Result<Command<'a>, AllocError> {
+fn limits<'a>(alloc: Global) -> Result<Vec<Arg<'a>>, AllocError> {
     let seconds = "End after S seconds";
     let conflicts = "End each search after N conflicts";
     let until = "End once there is a file FILE";
     let jobs = "Run N searches side by side, each in its own thread, 1 to 64";
     let seed = "Break ties by the seed K";
     let memory = "Limit the lemmas of each search to MIB MiB";
-    command.args(vec![in alloc;
+    Ok(vec![in alloc;
         number(alloc, "seconds", "S", seconds, 0, MAX_LIMIT).default_value(DEFAULT_SECONDS),
         number(alloc, "conflicts", "N", conflicts, 0, MAX_LIMIT),
         file(alloc, "until", until),
@@ -90,20 +93,15 @@ fn progress<'a>(alloc: Global) -> Arg<'a> {
         .value_parser(FORMS)
 }
 
-/// Adds an option that a search of a cube alone has.
-fn with_option<'a>(command: Command<'a>, option: Arg<'a>) -> Result<Command<'a>, AllocError> {
-    command.arg(option.requires_arg("under")?)
-}
-
-/// Adds the option that has a cube searched.
-fn with_path<'a>(alloc: Global, command: Command<'a>) -> Result<Command<'a>, AllocError> {
+/// The option that has a cube searched.
+fn path_option<'a>(alloc: Global) -> Result<Arg<'a>, AllocError> {
     let under = "Search the cube whose path is in FILE: an arc a line, FROM TO WEIGHT";
-    let path = file(alloc, "under", under).requires_arg("project")?;
-    command.arg(path.requires_arg("record")?)
+    let path = file(alloc, UNDER, under).requires_arg("project")?;
+    path.requires_arg("record")
 }
 
 /// The options of a search of a cube.
-fn with_cube<'a>(alloc: Global, command: Command<'a>) -> Result<Command<'a>, AllocError> {
+fn cube_options<'a>(alloc: Global) -> Result<Vec<Arg<'a>>, AllocError> {
     let project = "Read the project of the cube from FILE";
     let import = "Use the lemmas in FILE, which searches of other cubes exported";
     let export = "Write lemmas for searches of other cubes into FILE";
@@ -111,14 +109,17 @@ fn with_cube<'a>(alloc: Global, command: Command<'a>) -> Result<Command<'a>, All
     let below = "Look only for schedules shorter than C";
     let pieces = "Split the cube into P pieces where it stays open";
     let follow = "Take shorter schedules from standard input, whose end ends the search";
-    let command = with_path(alloc, command)?;
-    let command = with_option(command, file(alloc, "project", project))?;
-    let command = with_option(command, file(alloc, "import", import))?;
-    let command = with_option(command, file(alloc, "export", export))?;
-    let command = with_option(command, file(alloc, "guide", guide))?;
-    let command = command.arg(number(alloc, "below", "C", below, 0, MAX_BELOW))?;
-    let command = with_option(command, number(alloc, "pieces", "P", pieces, 1, MAX_PIECES))?;
-    with_option(command, flag(alloc, "follow", follow))
+    let mut options = Vec::with_capacity(alloc, 8)?;
+    options.push_reserved(path_option(alloc)?);
+    options.push_reserved(file(alloc, "project", project).requires_arg(UNDER)?);
+    options.push_reserved(file(alloc, "import", import).requires_arg(UNDER)?);
+    options.push_reserved(file(alloc, "export", export).requires_arg(UNDER)?);
+    options.push_reserved(file(alloc, "guide", guide).requires_arg(UNDER)?);
+    options.push_reserved(number(alloc, "below", "C", below, 0, MAX_BELOW));
+    let pieces = number(alloc, "pieces", "P", pieces, 1, MAX_PIECES);
+    options.push_reserved(pieces.requires_arg(UNDER)?);
+    options.push_reserved(flag(alloc, "follow", follow).requires_arg(UNDER)?);
+    Ok(options)
 }
 
 fn solve_command<'a>(alloc: Global, heading: &'a str) -> Result<Command<'a>, AllocError> {
@@ -127,6 +128,7 @@ fn solve_command<'a>(alloc: Global, heading: &'a str) -> Result<Command<'a>, All
     let json = "Print the answer as one line of JSON";
     let record = "Write the record that proves the answer into FILE";
     let resume = "Go on from the record in FILE";
+    let limits = limits(alloc)?;
     let options = vec![in alloc;
         file(alloc, "start", start),
         file(alloc, "resume", resume),
@@ -134,9 +136,9 @@ fn solve_command<'a>(alloc: Global, heading: &'a str) -> Result<Command<'a>, All
         file(alloc, "record", record),
         progress(alloc),
     ]?;
+    let of_cube = cube_options(alloc)?;
     let command = subcommand(alloc, heading, "solve", about, help::SOLVE);
-    let command = with_limits(alloc, command)?.args(options)?;
-    with_cube(alloc, command)
+    command.args(limits)?.args(options)?.args(of_cube)
 }
 
 fn join_command<'a>(alloc: Global, heading: &'a str) -> Result<Command<'a>, AllocError> {
@@ -154,12 +156,18 @@ fn join_command<'a>(alloc: Global, heading: &'a str) -> Result<Command<'a>, Allo
     project_subcommand(alloc, heading, "join", about, help::JOIN)?.args(options)
 }
 
-fn command<'a>(alloc: Global, heading: &'a str) -> Result<Command<'a>, AllocError> {
+fn commands<'a>(alloc: Global, heading: &'a str) -> Result<Vec<Command<'a>>, AllocError> {
+    let mut commands = Vec::with_capacity(alloc, 3)?;
+    commands.push_reserved(solve_command(alloc, heading)?);
+    commands.push_reserved(verify_command(alloc, heading)?);
+    commands.push_reserved(join_command(alloc, heading)?);
+    Ok(commands)
+}
+
+fn program<'a>(alloc: Global, heading: &'a str) -> Result<Command<'a>, AllocError> {
     let about = "Solve projects with resources and time lags, and check records";
-    program_command(alloc, "psprove", heading, about, help::PROGRAM)?
-        .subcommand(solve_command(alloc, heading)?)?
-        .subcommand(verify_command(alloc, heading)?)?
-        .subcommand(join_command(alloc, heading)?)
+    let commands = commands(alloc, heading)?;
+    program_command(alloc, PROGRAM, heading, about, help::PROGRAM)?.subcommands(commands)
 }
 
 /// What is reported while a search goes on.
@@ -258,7 +266,7 @@ fn cube_of(alloc: Global, matches: &ArgMatches<'_>, path: String) -> Result<Cube
 
 /// A search, of a cube if there is a path.
 fn solve_of(alloc: Global, matches: &ArgMatches<'_>) -> Result<Subcommand, AllocError> {
-    match file_name(alloc, matches, "under")? {
+    match file_name(alloc, matches, UNDER)? {
         Some(path) => Ok(Subcommand::Cube(cube_of(alloc, matches, path)?)),
         None => Ok(Subcommand::Solve(search_of(alloc, matches)?)),
     }
@@ -281,7 +289,7 @@ fn found_work(
 pub(crate) fn work_of(rt: &HostRuntime) -> Result<Subcommand, ArgumentsFault> {
     let (alloc, words) = (rt.alloc(), words(rt)?);
     let heading = heading(alloc, PROGRAM)?;
-    let matches = matches_of(alloc, command(alloc, &heading)?, &words)?;
+    let matches = matches_of(alloc, program(alloc, &heading)?, &words)?;
     found_work(alloc, &matches)?.ok_or(ArgumentsFault::Bad {
         text: String::new(alloc),
     })
