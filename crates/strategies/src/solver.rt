@@ -58,7 +58,7 @@ pub(crate) fn last_ceiling(instance: &Instance) -> i32 {
     instance.horizon.wrapping_add(1)
 }
 
-/// An engine in a box, since a move or a drop of one is large.
+/// An engine in a box: a copy of one is large, and so is the proof of each place where one is dropped.
 pub(crate) fn open_engine<'a>(
     instance: &'a Instance,
     walks: Walks,
@@ -172,7 +172,7 @@ impl<'a> Solver<'a> {
         })
     }
 
-    /// Enters a stage. This is the one place where an old stage is dropped.
+    /// Enters a stage. This is the one place where a stage is assigned.
     fn enter(&mut self, stage: Stage<'a>) {
         self.stage = stage;
     }
