@@ -147,10 +147,14 @@ def played(script: Callable[[Sequence[str]], Verdicts], words: Sequence[str]) ->
 
 
 def test(parts: Parts, folder: pathlib.Path, with_tests: bool = False) -> None:
+    """Runs the scripts. `plan` is called some hundred times, so its bytecode is kept until the end."""
     for name in ("psmax", "psprove"):
         os.environ[name.upper()] = str(folder / name)
-    for name, script, words in scripts(folder, with_tests):
-        parts.run(name, lambda: played(script, words))
+    with harness.new_folder() as bytecode:
+        os.environ["PYTHONPYCACHEPREFIX"] = str(bytecode)
+        os.environ.pop("PYTHONDONTWRITEBYTECODE", None)
+        for name, script, words in scripts(folder, with_tests):
+            parts.run(name, lambda: played(script, words))
 
 
 def proved(words: Sequence[str], log: pathlib.Path) -> Counts:
