@@ -2,6 +2,7 @@
 
 use crate::gates::{HoldingGate, Holds};
 use answers::Fault;
+use runs::{OutputWriter, write_all};
 use std::alloc::Global;
 use std::process::Abort;
 use std::sync::Wait;
@@ -11,7 +12,7 @@ use std::thread::Threads;
 mod devices;
 mod row;
 
-use devices::Limits;
+use devices::taking;
 use row::Row;
 
 /// Two activities of 3 and 4 periods that need the same machine.
@@ -70,7 +71,7 @@ fn plays<R: Threads + Wait + Sync + Abort>(
 ) -> Result<(), Fail> {
     for text in rows {
         let (row, gate) = (Row::of(text), HoldingGate::new(holds));
-        let mut told = row.told(rt, alloc, Limits::NONE, &gate)?;
+        let mut told = row.told(rt, alloc, &gate)?;
         if holds != Holds::Nobody {
             let seen = gate.seen();
             let (moments, calls, gave_up) = (seen.moments, seen.calls, seen.gave_up);
@@ -185,16 +186,11 @@ fn faults_are_those_of_the_workers(rt: HostRuntime) -> Result<(), Fail> {
 fn records_of_two_threads_are_right(rt: HostRuntime) -> Result<(), Fail> {
     let row = Row::of("solve --nodes 100 --workers 2 --record r; three on two -> 0|optimal 4\n");
     let gate = HoldingGate::new(Holds::Second);
-    let told = row.told(&rt, rt.alloc(), Limits::NONE, &gate)?;
+    let told = row.told(&rt, rt.alloc(), &gate)?;
     assert!(&rt; told.starts_with(row.wanted), "{row:?} -> : {told}");
     assert_eq!(&rt; gate.seen().gave_up, 0);
     let verify = Row::verifying(&told, "three on two");
-    let proved = verify.told(
-        &rt,
-        rt.alloc(),
-        Limits::NONE,
-        &HoldingGate::new(Holds::Nobody),
-    )?;
+    let proved = verify.told(&rt, rt.alloc(), &HoldingGate::new(Holds::Nobody))?;
     assert!(&rt;
         proved.as_str() == "0|proved optimal 4\n||",
         "{verify:?} -> : {proved}"
@@ -203,22 +199,13 @@ fn records_of_two_threads_are_right(rt: HostRuntime) -> Result<(), Fail> {
 }
 
 #[test]
-fn devices_go_in_pieces_and_fail_at_each_byte(rt: HostRuntime) -> Result<(), Fail> {
-    for text in [
-        "earliest; two jobs -> 0|earliest 4\n0 0\n1 0\n2 0\n3 4\n||",
-        "solve --nodes 10; two jobs -> 0|optimal 7\n0 0\n1 4\n2 0\n3 7\n||",
-        "check --project p; starts; two jobs -> 0|feasible 7\n||",
-        "tidy; two jobs -> 0|2\t1\t0\t0\n0\t1\t0\n1\t1\t0\n2\t1\t0\n3\t1\t0\n\
-            0\t1\t0\t0\n1\t1\t3\t1\n2\t1\t4\t1\n3\t1\t0\t0\n1\n||",
-        "verify --project p; record; two jobs -> 0|proved optimal 7\n||",
-        "solve --nodes 10 --record r; two jobs -> 0|optimal 7\n0 0\n1 4\n2 0\n3 7\n\
-            |record 1\noptimal 7\nstarts 0 4 0 7\nsplit 0 1 2\ncut\nsolved\n|",
-        "solve --nodes 10 --start s --record r; two jobs; starts \
-            -> 0|optimal 7\n0 0\n1 0\n2 3\n3 7\n|record 1\noptimal 7\nstarts 0 0 3 7\ncut\n|",
-    ] {
-        let row = Row::of(text);
-        row.goes_in_pieces(&rt, rt.alloc())?;
-        row.fails_at_each_byte(&rt, rt.alloc())?;
+fn outputs_are_handed_all_that_is_left(rt: HostRuntime) -> Result<(), Fail> {
+    for chunk in 1..=CANONICAL.len() {
+        let mut out = OutputWriter::new(taking(rt.alloc(), chunk));
+        assert!(&rt; write_all(&mut out, CANONICAL.as_bytes()).is_ok());
+        let out = out.into_inner();
+        assert_eq!(&rt; out.taken.as_slice(), CANONICAL.as_bytes());
+        assert_eq!(&rt; out.writes, CANONICAL.len().div_ceil(chunk));
     }
     Ok(())
 }

@@ -159,18 +159,18 @@ fn serve_all<L: Ledger, S: Ledger, G: Gate, R: Wait>(
     shared: &Shared<L, S>,
     desk: &mut WorkerState<L, S>,
     gate: &G,
+    kept: &mut Option<Searcher>,
 ) -> Result<(), WorkFault>
     requires { SeatedAt shared.now desk.old }
     ensures end { CountsEnd desk.old result desk.new }
     ensures stays { StaysAt shared.now desk.old desk.new }
     ensures counts { desk.old.accepted ≤ desk.new.accepted }
 {
-    let mut kept = None;
     for _ in rt.forever() {
         let Some(ticket) = shared.next_ticket(rt, desk) else {
             return Ok(());
         };
-        serve(rt, alloc, shared, desk, gate, &mut kept, ticket)?;
+        serve(rt, alloc, shared, desk, gate, kept, ticket)?;
     }
     unreachable!()
 }
@@ -188,7 +188,8 @@ pub(crate) fn serve_to_end<L: Ledger, S: Ledger, G: Gate, R: Wait>(
     ensures stays { StaysAt shared.now desk.old desk.new }
     ensures counts { desk.old.accepted ≤ desk.new.accepted }
 {
-    let ended = serve_all(rt, alloc, shared, desk, gate);
+    let mut kept = None;
+    let ended = serve_all(rt, alloc, shared, desk, gate, &mut kept);
     gate.pass(rt, desk.number(), Moment::Ended);
     ended
 }
