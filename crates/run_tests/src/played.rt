@@ -3,7 +3,7 @@
 use crate::gates::{HoldingGate, Holds};
 use answers::Fault;
 use runs::{OutputWriter, write_all};
-use std::alloc::Global;
+use std::alloc::{AllocError, Global};
 use std::process::Abort;
 use std::sync::Wait;
 use std::test::Fail;
@@ -202,7 +202,9 @@ fn records_of_two_threads_are_right(rt: HostRuntime) -> Result<(), Fail> {
 fn outputs_are_handed_all_that_is_left(rt: HostRuntime) -> Result<(), Fail> {
     for chunk in 1..=CANONICAL.len() {
         let mut out = OutputWriter::new(taking(rt.alloc(), chunk));
-        assert!(&rt; write_all(&mut out, CANONICAL.as_bytes()).is_ok());
+        if write_all(&mut out, CANONICAL.as_bytes()).is_err() {
+            return Err(AllocError.into());
+        }
         let out = out.into_inner();
         assert_eq!(&rt; out.taken.as_slice(), CANONICAL.as_bytes());
         assert_eq!(&rt; out.writes, CANONICAL.len().div_ceil(chunk));
