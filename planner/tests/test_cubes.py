@@ -54,6 +54,14 @@ def until(is_so: Callable[[], object]) -> None:
         time.sleep(0.05)
 
 
+def state_of(pid: int) -> str:
+    """The letter of a process's state, T where it is stopped; Z where it has ended."""
+    try:
+        return pathlib.Path(f"/proc/{pid}/stat").read_text().rpartition(") ")[2][0]
+    except OSError:
+        return "Z"
+
+
 def is_open(port: int) -> bool:
     with socket.socket() as caller:
         return caller.connect_ex(("127.0.0.1", port)) == 0
@@ -92,6 +100,17 @@ class InCubes(InFolder):
         threads = pathlib.Path(f"/proc/{driver}/task").glob("*/children")
         return [int(pid) for thread in threads for pid in thread.read_text().split()]
 
+    def killed(self, driver: int) -> int:
+        """A search that is killed before its end: it is stopped first, and one that had ended by then doesn't count."""
+        while True:
+            with contextlib.suppress(IndexError, ProcessLookupError):
+                pid = self.searches(driver)[-1]
+                os.kill(pid, signal.SIGSTOP)
+                until(lambda: state_of(pid) in "TZ")
+                if state_of(pid) == "T":
+                    os.kill(pid, signal.SIGKILL)
+                    return pid
+
 
 class Here(InCubes):
     def test_split_and_solved(self) -> None:
@@ -112,8 +131,7 @@ class Here(InCubes):
             self.assertRegex(self.joined(), "^proved bound [0-9]$")
             self.refused(plan(*words), 2, "has a driver already")
             until(lambda: len(self.searches(driver.pid)) == 2)
-            first, second = self.searches(driver.pid)
-            os.kill(first, signal.SIGKILL)
+            first = self.killed(driver.pid)
             until(lambda: first not in self.searches(driver.pid) and len(self.searches(driver.pid)) == 2)
             self.assertIn("2 running", plan("status", self.out).stdout)
             left = self.searches(driver.pid)
