@@ -116,11 +116,17 @@ impl HoldingGate {
         }
     }
 
-    /// Yields until a count has reached a number.
+    /// Yields until a count has reached a number. It gives up where another worker has ended before that, as workers do
+    /// when memory is refused.
     fn wait_for(&self, count: &AtomicU64, number: u64) {
+        let is_at_end = matches!(self.holds, Holds::Ended(_));
         for _ in 0..1_000_000u32 {
+            let has_one_ended = self.ended.load(Ordering::SeqCst) > 0;
             if count.load(Ordering::SeqCst) >= number {
                 return;
+            }
+            if has_one_ended && !is_at_end {
+                break;
             }
             thread::yield_now();
         }
