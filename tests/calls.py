@@ -57,7 +57,7 @@ def shortest_of_three(out: bytes, record: bytes) -> bool:
     return not record or judges.by_script(judge, record) == (0, b"proved optimal 4\n", b"")
 
 
-REPORT = re.compile(rb"(?:\d+ s: (?:schedule|bound) .*|\{\"seconds\":.*\})\n")
+REPORT = re.compile(rb"(?:\d+ s: (?:schedule|bound) .*|\{\"bound\":.*\})\n")
 
 
 def without_reports(fault: bytes) -> bytes:

@@ -1,14 +1,16 @@
 //! The words of the command line, by `clap`.
 
-use crate::cube::CubeWork;
+use crate::cube::CubeCall;
+use crate::reports::ReportForm;
+use crate::solve::SolveCall;
 use crate::{PROGRAM, help};
 use calls::{
     ArgumentsFault, VerifyCall, file, file_name, flag, heading, matches_of, number,
     program_command, project_subcommand, subcommand, verify_call, verify_command, words,
 };
 use clap::{Arg, ArgMatches, Command};
-use cubes::Limit;
-use search_jobs::{MAX_JOBS, Progress, SolveOptions};
+use psprove_run::SolveOptions;
+use session::{Limits, MAX_JOBS};
 use std::alloc::{AllocError, Global};
 
 /// How many seconds a search has by default.
@@ -40,25 +42,7 @@ const FORMS: &[&str] = &["lines", "json"];
 pub(crate) enum Subcommand {
     Verify(VerifyCall),
     Solve(SolveCall),
-    Cube(CubeWork),
-}
-
-/// A search, and the names of its files.
-#[derive(Debug, Drop)]
-pub(crate) struct SolveCall {
-    pub(crate) asked: SolveOptions,
-    /// The starts that it begins with.
-    pub(crate) start: Option<String>,
-    /// The record that it goes on from.
-    pub(crate) resume: Option<String>,
-    /// Its own record.
-    pub(crate) record: Option<String>,
-    /// A file that ends it.
-    pub(crate) until: Option<String>,
-    /// The project, if it is not on standard input.
-    pub(crate) project: Option<String>,
-    /// The cubes whose records are joined.
-    pub(crate) tree: Option<String>,
+    Cube(CubeCall),
 }
 
 /// The most pieces of a cube.
@@ -102,23 +86,19 @@ fn path_option<'a>(alloc: Global) -> Result<Arg<'a>, AllocError> {
 
 /// The options of a search of a cube.
 fn cube_options<'a>(alloc: Global) -> Result<Vec<Arg<'a>>, AllocError> {
-    let project = "Read the project of the cube from FILE";
     let import = "Use the lemmas in FILE, which searches of other cubes exported";
     let export = "Write lemmas for searches of other cubes into FILE";
     let guide = "Try the starts of the feasible schedule in FILE first";
     let below = "Look only for schedules shorter than C";
     let pieces = "Split the cube into P pieces where it stays open";
-    let follow = "Take shorter schedules from standard input, whose end ends the search";
-    let mut options = Vec::with_capacity(alloc, 8)?;
+    let mut options = Vec::with_capacity(alloc, 6)?;
     options.push_reserved(path_option(alloc)?);
-    options.push_reserved(file(alloc, "project", project).requires_arg(UNDER)?);
     options.push_reserved(file(alloc, "import", import).requires_arg(UNDER)?);
     options.push_reserved(file(alloc, "export", export).requires_arg(UNDER)?);
     options.push_reserved(file(alloc, "guide", guide).requires_arg(UNDER)?);
     options.push_reserved(number(alloc, "below", "C", below, 0, MAX_BELOW));
     let pieces = number(alloc, "pieces", "P", pieces, 1, MAX_PIECES);
     options.push_reserved(pieces.requires_arg(UNDER)?);
-    options.push_reserved(flag(alloc, "follow", follow).requires_arg(UNDER)?);
     Ok(options)
 }
 
@@ -128,6 +108,8 @@ fn solve_command<'a>(alloc: Global, heading: &'a str) -> Result<Command<'a>, All
     let json = "Print the answer as one line of JSON";
     let record = "Write the record that proves the answer into FILE";
     let resume = "Go on from the record in FILE";
+    let project = "Read the project from FILE, not from standard input";
+    let follow = "Take shorter schedules from standard input, whose end ends the search";
     let limits = limits(alloc)?;
     let options = vec![in alloc;
         file(alloc, "start", start),
@@ -135,6 +117,8 @@ fn solve_command<'a>(alloc: Global, heading: &'a str) -> Result<Command<'a>, All
         flag(alloc, "json", json),
         file(alloc, "record", record),
         progress(alloc),
+        file(alloc, "project", project),
+        flag(alloc, "follow", follow).requires_arg("project")?,
     ]?;
     let of_cube = cube_options(alloc)?;
     let command = subcommand(alloc, heading, "solve", about, help::SOLVE);
@@ -170,69 +154,66 @@ fn program<'a>(alloc: Global, heading: &'a str) -> Result<Command<'a>, AllocErro
     program_command(alloc, PROGRAM, heading, about, help::PROGRAM)?.subcommands(commands)
 }
 
-/// What is reported while a search goes on.
-fn form(alloc: Global, matches: &ArgMatches<'_>) -> Result<Progress, AllocError> {
+/// The form of reports.
+fn form(alloc: Global, matches: &ArgMatches<'_>) -> Result<ReportForm, AllocError> {
     let word = file_name(alloc, matches, "progress")?;
     Ok(match word.as_deref() {
-        None => Progress::Nothing,
-        Some("json") => Progress::Json,
-        Some(_) => Progress::Lines,
+        None => ReportForm::Nothing,
+        Some("json") => ReportForm::Json,
+        Some(_) => ReportForm::Lines,
     })
 }
 
-/// What is asked of a search.
-fn asked(matches: &ArgMatches<'_>, start: bool, progress: Progress) -> SolveOptions {
+/// How far a search goes.
+fn limits_of(matches: &ArgMatches<'_>) -> Limits {
     let memory = matches.get_one::<u64>("memory").unwrap_or(1);
-    SolveOptions {
+    Limits {
         jobs: matches.get_one::<u64>("jobs").unwrap_or(1),
         conflicts: matches.get_one::<u64>("conflicts").unwrap_or(u64::MAX),
         seconds: matches.get_one::<u64>("seconds").unwrap_or(0),
         seed: matches.get_one::<u64>("seed").unwrap_or(0),
         memory: memory.saturating_mul(1 << 20),
         below: matches.get_one::<u64>("below"),
-        start,
-        json: matches.get_flag("json"),
-        progress,
     }
 }
 
 /// A search, and the names of its files.
 fn search_of(alloc: Global, matches: &ArgMatches<'_>) -> Result<SolveCall, AllocError> {
     let start = file_name(alloc, matches, "start")?;
-    let progress = form(alloc, matches)?;
     Ok(SolveCall {
-        asked: asked(matches, start.is_some(), progress),
+        options: SolveOptions {
+            limits: limits_of(matches),
+            start: start.is_some(),
+            json: matches.get_flag("json"),
+        },
+        form: form(alloc, matches)?,
         start,
         resume: file_name(alloc, matches, "resume")?,
+        tree: None,
         record: file_name(alloc, matches, "record")?,
         until: file_name(alloc, matches, "until")?,
-        project: None,
-        tree: None,
+        follow: matches.get_flag("follow"),
+        project: file_name(alloc, matches, "project")?,
     })
 }
 
-/// A join of records: a search of no seconds that begins with them.
+/// A join of records: nothing is searched.
 fn join_of(alloc: Global, matches: &ArgMatches<'_>) -> Result<SolveCall, AllocError> {
     let start = file_name(alloc, matches, "start")?;
-    let asked = SolveOptions {
-        jobs: 1,
-        conflicts: 0,
-        seconds: 0,
-        seed: 0,
-        memory: 1 << 20,
-        below: None,
-        start: start.is_some(),
-        json: matches.get_flag("json"),
-        progress: Progress::Nothing,
-    };
     Ok(SolveCall {
-        asked,
+        options: SolveOptions {
+            limits: Limits::NO_SEARCH,
+            start: start.is_some(),
+            json: matches.get_flag("json"),
+        },
+        form: ReportForm::Nothing,
         start,
         resume: None,
+        tree: file_name(alloc, matches, "tree")?,
         record: file_name(alloc, matches, "record")?,
         until: None,
+        follow: false,
         project: file_name(alloc, matches, "project")?,
-        tree: file_name(alloc, matches, "tree")?,
     })
 }
 
@@ -242,17 +223,14 @@ fn needed_name(alloc: Global, matches: &ArgMatches<'_>, name: &str) -> Result<St
 }
 
 /// A search of the cube whose path is in a file.
-fn cube_of(alloc: Global, matches: &ArgMatches<'_>, path: String) -> Result<CubeWork, AllocError> {
-    let asked = asked(matches, false, Progress::Nothing);
-    Ok(CubeWork {
-        limit: Limit {
-            conflicts: asked.conflicts,
-            seconds: asked.seconds,
-            seed: asked.seed,
-            memory: asked.memory,
-            pieces: matches.get_one::<u64>("pieces").unwrap_or(1),
-        },
-        below: asked.below,
+fn cube_of(alloc: Global, matches: &ArgMatches<'_>, path: String) -> Result<CubeCall, AllocError> {
+    let limits = Limits {
+        jobs: 1,
+        ..limits_of(matches)
+    };
+    Ok(CubeCall {
+        limits,
+        pieces: matches.get_one::<u64>("pieces").unwrap_or(1),
         project: needed_name(alloc, matches, "project")?,
         path,
         start: file_name(alloc, matches, "start")?,
@@ -260,6 +238,7 @@ fn cube_of(alloc: Global, matches: &ArgMatches<'_>, path: String) -> Result<Cube
         import: file_name(alloc, matches, "import")?,
         export: file_name(alloc, matches, "export")?,
         record: needed_name(alloc, matches, "record")?,
+        until: file_name(alloc, matches, "until")?,
         follow: matches.get_flag("follow"),
     })
 }

@@ -4,23 +4,28 @@
 
 mod command_line;
 mod cube;
+mod failure;
+mod files;
 mod following;
 mod help;
-mod host;
+mod json;
+mod program;
 mod record_file;
-mod search;
+mod reports;
+mod solve;
 
 use answers::Fault;
 use calls::{FOLDER, refuse, report, verify};
 use command_line::{Subcommand, work_of};
-use following::{Heard, ear, listen};
+use cube::solve_cube;
+use failure::Failure;
+use following::{ear, listen};
 use runs::{Ended, RecordKind};
-use std::alloc::Global;
+use solve::solve;
 use std::io::IsTerminal;
 use std::process::ExitCode;
 use std::rt::Runtime;
-use std::sync::{Arc, Mutex, Wait};
-use std::thread::Threads;
+use std::sync::Arc;
 use std::{fs, thread};
 
 /// The program's name in what it prints.
@@ -28,36 +33,27 @@ pub(crate) const PROGRAM: &str = "psprove";
 
 /// Says what a search waits for, where standard input is a terminal.
 fn tell_wait(rt: &HostRuntime, work: &Subcommand) {
-    let reads = matches!(work, Subcommand::Solve(search) if search.project.is_none());
+    let reads = matches!(work, Subcommand::Solve(call) if call.project.is_none());
     if reads && rt.reader().is_terminal() {
         let _ = eprintln!(rt; "{PROGRAM}: waits for a project on standard input");
     }
 }
 
-/// Does the work.
-fn perform<R: Runtime + Threads + Wait + Sync>(
-    rt: &R,
-    alloc: Global,
-    work: Subcommand,
-    heard: &Mutex<Heard>,
-) -> ExitCode {
-    let _input = fs::open(rt, FOLDER);
-    let _output = fs::open(rt, FOLDER);
-    let _faults = fs::open(rt, FOLDER);
-    let done = match work {
-        Subcommand::Verify(call) => Ok(verify(rt, PROGRAM, alloc, RecordKind::Lemmas, &call)),
-        Subcommand::Solve(work) => search::begin(rt, alloc, &work),
-        Subcommand::Cube(work) => cube::search(rt, alloc, &work, heard),
-    };
+/// The exit status of a call. Prints why it has no answer.
+fn status_of<R: Runtime>(rt: &R, done: Result<ExitCode, Failure<'_>>) -> ExitCode {
     match done {
         Ok(status) => status,
-        Err(_) => report(rt, PROGRAM, &Ended::with(Fault::Memory)),
+        Err(failure) => failure.print(rt),
     }
 }
 
 /// Whether work follows what standard input tells while it goes on.
 fn follows(work: &Subcommand) -> bool {
-    matches!(work, Subcommand::Cube(cube) if cube.follow)
+    match work {
+        Subcommand::Verify(_) => false,
+        Subcommand::Solve(call) => call.follow,
+        Subcommand::Cube(call) => call.follow,
+    }
 }
 
 fn main(rt: HostRuntime) -> ExitCode {
@@ -78,5 +74,12 @@ fn main(rt: HostRuntime) -> ExitCode {
             return report(&rt, PROGRAM, &Ended::with(Fault::Thread));
         }
     }
-    perform(&rt, alloc, work, &mine)
+    let _input = fs::open(&rt, FOLDER);
+    let _output = fs::open(&rt, FOLDER);
+    let _faults = fs::open(&rt, FOLDER);
+    match &work {
+        Subcommand::Verify(call) => verify(&rt, PROGRAM, alloc, RecordKind::Lemmas, call),
+        Subcommand::Solve(call) => status_of(&rt, solve(&rt, alloc, call, &mine)),
+        Subcommand::Cube(call) => status_of(&rt, solve_cube(&rt, alloc, call, &mine)),
+    }
 }
