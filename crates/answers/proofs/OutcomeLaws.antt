@@ -1,8 +1,8 @@
 -- What is said of an outcome is an answer of `solve`.
 use Rattle.std.proofs.Common.{◌≡◌, true, false, Some, None, inl, inr, arith, ℕ, List, [], ◌∷◌, ◌++◌, map, ℤ, pos, negsuc, Option, refl, sym, ap, ◌∙◌}
 use Rattle.std.proofs.Common.{append_assoc, codes}
-use Rattle.plain_search.specs.declared.search.Outcome.{Outcome}
-use Rattle.plain_search.specs.declared.search.Outcome.TheVariants.{Optimal, NoSchedule, Stopped}
+use Rattle.network.specs.declared.outcome.Outcome.{Outcome}
+use Rattle.network.specs.declared.outcome.Outcome.TheVariants.{Optimal, NoSchedule, Stopped}
 use Rattle.plain_search.specs.Takes.{StopsOnlyAfter}
 use Rattle.answers.specs.Outcomes.{AloneIsTrue, FoundIsTrue, SaidIsTrue, SaysOutcome, IsStoppedText}
 use Rattle.std.specs.List.{join_with_byte}

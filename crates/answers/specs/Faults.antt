@@ -7,9 +7,9 @@ use Rattle.schedule_check.specs.declared.fault.StartsFault.TheVariants as starts
 use Rattle.record_text.specs.declared.fault.RecordFault.{RecordFault}
 use Rattle.record_text.specs.declared.fault.RecordFaultKind.{RecordFaultKind}
 use Rattle.record_text.specs.declared.fault.RecordFaultKind.TheVariants as why
-use Rattle.lemma_record.specs.declared.fault.EventFault.{EventFault}
-use Rattle.lemma_record.specs.declared.fault.Wrong.{Wrong}
-use Rattle.lemma_record.specs.declared.fault.Wrong.TheVariants as wrong
+use Rattle.record_text.specs.declared.event_fault.EventFault.{EventFault}
+use Rattle.record_text.specs.declared.event_fault.Wrong.{Wrong}
+use Rattle.record_text.specs.declared.event_fault.Wrong.TheVariants as wrong
 use Rattle.answers.specs.declared.fault.Fault.{Fault}
 use Rattle.answers.specs.declared.fault.Fault.TheVariants as faults
 

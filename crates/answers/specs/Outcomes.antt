@@ -2,10 +2,10 @@
 use Rattle.std.specs.Prelude.{◌≡◌, ℕ, ℤ, List, Bool, true, false, Option, Some, None, IfSome}
 use Rattle.network.specs.Problem.{Problem}
 use Rattle.network.specs.Schedule.{makespan}
-use Rattle.plain_search.specs.declared.search.Outcome.{Outcome}
-use Rattle.plain_search.specs.declared.search.Outcome.TheVariants.{Optimal, NoSchedule, Stopped}
+use Rattle.network.specs.declared.outcome.Outcome.{Outcome}
+use Rattle.network.specs.declared.outcome.Outcome.TheVariants.{Optimal, NoSchedule, Stopped}
 use Rattle.plain_search.specs.Takes.{IsStoppedAfter, StopsOnlyAfter}
-use Rattle.plain_search.specs.Verdicts.{IsNoLongerThan, IsTrueOf, StopsBelowBest}
+use Rattle.network.specs.Verdicts.{IsNoLongerThan, IsTrueOf, StopsBelowBest}
 use Rattle.record_text.specs.declared.line.Claim.{Claim}
 use Rattle.record_text.specs.declared.line.Claim.TheVariants as claims
 use Rattle.record_text.specs.Tree.{SearchRecord}

@@ -4,8 +4,7 @@ ghost use Rattle.std.specs.Prelude.{◌≡◌};
 ghost use Rattle.answers.specs.Faults.{exit_of, fault_of, starts_fault_of, record_exit, record_fault_of, event_fault_of};
 ghost use Rattle.answers.specs.declared.fault.Fault.TheVariants as faults;
 
-use lemma_record::{EventFault, Wrong};
-use record_text::{RecordFault, RecordFaultKind};
+use record_text::{EventFault, RecordFault, RecordFaultKind, Wrong};
 use sch_reader::SchFault;
 use schedule_check::StartsFault;
 use std::alloc::{AllocError, AllocFailed};

@@ -3,16 +3,14 @@
 ghost use Rattle.std.specs.Prelude.{◌≡◌, Some, IsTrue, IfOk, IfErr, IfSome, OnOk};
 ghost use Rattle.std.specs.Arc.{arc_value};
 ghost use Rattle.network.specs.Problem.{AreStarts};
-ghost use Rattle.network.specs.Schedule.{IsFeasible, IsTrueVerdict};
-ghost use Rattle.branching.specs.Fair.{IsScheduleFor};
+ghost use Rattle.network.specs.Schedule.{IsFeasible, IsTrueVerdict, IsScheduleFor};
 ghost use Rattle.network.specs.Schedule.{makespan as makespan_of};
 ghost use Rattle.answers.specs.Faults.{exit_of, IsNoDeviceFault};
-ghost use Rattle.plain_search.specs.Verdicts.{IsTrueOf, verdict_of};
+ghost use Rattle.network.specs.Verdicts.{IsTrueOf, verdict_of};
 
 use crate::fault::Fault;
 use lemma_record::Shown;
-use network::{MAX_START, Project, Schedule, Verdict};
-use plain_search::Outcome;
+use network::{MAX_START, Outcome, Project, Schedule, Verdict};
 use std::alloc::Global;
 use std::sync::Arc;
 

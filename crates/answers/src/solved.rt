@@ -9,8 +9,7 @@ ghost use Rattle.answers.specs.Figured.{SaysFigures};
 use crate::answer::Answer;
 use crate::json_text::{Figures, figured_line, json_line};
 use crate::texts::{put_starts, starts_text};
-use network::Schedule;
-use plain_search::Outcome;
+use network::{Outcome, Schedule};
 use std::alloc::{AllocError, Global};
 
 #[tactic(auto, unfolding(json::specs::Print::escape_byte))]

@@ -9,10 +9,10 @@ use Rattle.std.proofs.lemmas.List.{map-append}
 use Rattle.std.proofs.lemmas.List.Elements.{All-append, All-filter, All-map, All-contains, Contains-append_left, Contains-append_right, Contains-append_cases}
 use Rattle.std.proofs.lemmas.List.Sorted.{IsPermutation-map, All-permutation, Contains-permutation, IsPermutation-append_comm}
 use Rattle.network.specs.Problem.{Problem}
-use Rattle.network.specs.Schedule.{ScheduleOf, makespan}
+use Rattle.network.specs.Schedule.{ScheduleOf, makespan, IsScheduleFor}
 use Rattle.branching.specs.Subproblem.{Subproblem}
 use Rattle.branching.specs.Right.{IsBelow, IsUnder, Reaches, is_below, IsInTime}
-use Rattle.branching.specs.Fair.{IsNodeOf, IsCovered, IsScheduleFor, ceiling_of, Expansion, IsFair, IsShorterThan, IsShorterOf}
+use Rattle.branching.specs.Fair.{IsNodeOf, IsCovered, ceiling_of, Expansion, IsFair, IsShorterThan, IsShorterOf}
 use Rattle.branching.proofs.OrderedPairs.{here, there, contains_cases}
 use Rattle.branching.proofs.Covers.{covered_still, expansion_keeps}
 use Rattle.book.specs.State.{Named}

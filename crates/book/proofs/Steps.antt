@@ -7,10 +7,10 @@ use Rattle.std.proofs.Math.ListN.{set, replicate}
 use Rattle.std.proofs.lemmas.List.Elements.{All-tail, All-append, All-weaker, All-nil, All-cons, All-head}
 use Rattle.std.proofs.lemmas.List.Sorted.{IsPermutation-sym, IsPermutation-trans, IsPermutation-middle, IsPermutation-append_left, IsPermutation-append_right}
 use Rattle.std.proofs.lemmas.List.Sorted.{All-permutation, length_permutation}
-use Rattle.network.specs.Schedule.{ScheduleOf, makespan}
+use Rattle.network.specs.Schedule.{ScheduleOf, makespan, IsScheduleFor}
 use Rattle.branching.specs.Subproblem.{Subproblem}
 use Rattle.branching.specs.Right.{Reaches, is_below, IsUnder}
-use Rattle.branching.specs.Fair.{IsScheduleFor, Expansion, IsFair, IsReport, ceiling_of, IsNodeOf, IsRootOf, IsCovered}
+use Rattle.branching.specs.Fair.{Expansion, IsFair, IsReport, ceiling_of, IsNodeOf, IsRootOf, IsCovered}
 use Rattle.book.specs.State.{Named, BookState, in_hand, live, best_makespan}
 use Rattle.book.specs.Sound.{AreNamedOnce, AreNamedBelow, nodes_of, IsSound}
 use Rattle.book.specs.Steps.{Improves, IsFull, HandsOut, named_from, MayCheckIn, Accepts, ReturnsNode, IsShorterFound, AreAllowed, AreRoots, new_state, MayTake}

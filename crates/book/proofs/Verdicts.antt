@@ -5,9 +5,9 @@ use Rattle.std.specs.Option.{option_to_list}
 use Rattle.std.proofs.lemmas.Int.{ints, by_lt_z}
 use Rattle.std.proofs.lemmas.List.Elements.{All-head, All-map, All-contains}
 use Rattle.network.specs.Problem.{Problem}
-use Rattle.network.specs.Schedule.{ScheduleOf, IsFeasible, makespan, HasNoSchedule, IsTrueVerdict}
+use Rattle.network.specs.Schedule.{ScheduleOf, IsFeasible, makespan, HasNoSchedule, IsTrueVerdict, IsScheduleFor}
 use Rattle.branching.specs.Subproblem.{Subproblem, NodeStandsFor}
-use Rattle.branching.specs.Fair.{IsNodeOf, IsScheduleFor, ceiling_of, IsShorterThan}
+use Rattle.branching.specs.Fair.{IsNodeOf, ceiling_of, IsShorterThan}
 use Rattle.branching.specs.Right.{IsLeast}
 use Rattle.book.specs.State.{Named, BookState, live, best_makespan}
 use Rattle.book.specs.Sound.{nodes_of, IsSound, bounds_of, known_bounds, IsBoundFor, IsVerdictOf}

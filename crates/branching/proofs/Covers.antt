@@ -8,14 +8,14 @@ use Rattle.std.proofs.lemmas.List.Elements.{All-nil, All-cons, All-contains, All
 use Rattle.std.proofs.lemmas.List.Elements.{Contains-get_or}
 use Rattle.network.specs.declared.parts.Pair.{Pair}
 use Rattle.network.specs.Problem.{Problem, duration, pair_of, arcs_of}
-use Rattle.network.specs.Schedule.{start, Keeps, IsFeasible, ScheduleOf, makespan, HasNoSchedule}
+use Rattle.network.specs.Schedule.{start, Keeps, IsFeasible, ScheduleOf, makespan, HasNoSchedule, IsScheduleFor}
 use Rattle.branching.specs.Subproblem.{ordered_pairs, Subproblem, NodeStandsFor}
 use Rattle.branching.specs.Right.{IsRightSet, IsBelow, IsUnder, Reaches}
 use Rattle.branching.proofs.OrderedPairs.{here, there, contains_pair, any_cases, any_left, any_right}
 use Rattle.forbidden_sets.proofs.Apart.{StartsLast, starts_last, not_all_run}
 use Rattle.network.specs.Walk.{HasPositiveCycle}
 use Rattle.network.proofs.Schedules.{no_schedule_on_cycle}
-use Rattle.branching.specs.Fair.{Expansion, IsFair, IsShorterThan, IsFoundFor, IsChildOf, IsNodeOf, IsRootOf, IsScheduleFor, IsCovered, IsShorterOf, ceiling_of}
+use Rattle.branching.specs.Fair.{Expansion, IsFair, IsShorterThan, IsFoundFor, IsChildOf, IsNodeOf, IsRootOf, IsCovered, IsShorterOf, ceiling_of}
 
 -- ---- members that end before
 

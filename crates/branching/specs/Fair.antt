@@ -110,11 +110,6 @@ pub record IsRootOf (p : Problem) (node : Subproblem) : Type 0 where
   pub of_project : IsNodeOf p node
   pub no_pairs : node.pairs ≡ []
 
--- a feasible schedule of the project
-pub record IsScheduleFor (p : Problem) (best : ScheduleOf) : Type 0 where
-  pub project : best.project ≡ p
-  pub feasible : IsFeasible p best.starts
-
 -- the best is feasible, and each shorter feasible schedule is one that some node stands for
 pub record IsCovered (p : Problem) (best : Option ScheduleOf) (nodes : List Subproblem) : Type 0 where
   pub of_best : IfSome best (IsScheduleFor p)

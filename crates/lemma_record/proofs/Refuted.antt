@@ -9,9 +9,9 @@ use Rattle.lemma_log.specs.Text.{title_text}
 use Rattle.lemma_log.specs.Reading.{read_in}
 use Rattle.lemma_log.specs.Logs.{AreFirst}
 use Rattle.lemma_book.specs.Ledger.{LedgerOf, first_ledger}
-use Rattle.lemma_record.specs.declared.fault.EventFault.{EventFault}
-use Rattle.lemma_record.specs.declared.fault.Wrong.{Wrong}
-use Rattle.lemma_record.specs.declared.fault.Wrong.TheVariants as wrong
+use Rattle.record_text.specs.declared.event_fault.EventFault.{EventFault}
+use Rattle.record_text.specs.declared.event_fault.Wrong.{Wrong}
+use Rattle.record_text.specs.declared.event_fault.Wrong.TheVariants as wrong
 use Rattle.lemma_record.specs.Right.{IsRightText, IsStep, Takes, TakesAll}
 use Rattle.lemma_record.specs.Parts.{PartOf, TakesPart, has, number_after}
 use Rattle.lemma_record.specs.Faults.{FaultIsWrong, IsNextFault, IsTrailing, IsWrongNext, IsWrongTitle}

@@ -18,9 +18,9 @@ use Rattle.lemma_log.proofs.CutOff.{IsStable, read_stable}
 use Rattle.lemma_book.specs.Ledger.{LedgerOf, first_ledger}
 use Rattle.lemma_book.proofs.Claims.{none_here}
 use Rattle.lemma_record.proofs.Titles.{title_first}
-use Rattle.lemma_record.specs.declared.fault.EventFault.{EventFault}
-use Rattle.lemma_record.specs.declared.fault.Wrong.{Wrong}
-use Rattle.lemma_record.specs.declared.fault.Wrong.TheVariants as wrong
+use Rattle.record_text.specs.declared.event_fault.EventFault.{EventFault}
+use Rattle.record_text.specs.declared.event_fault.Wrong.{Wrong}
+use Rattle.record_text.specs.declared.event_fault.Wrong.TheVariants as wrong
 use Rattle.lemma_record.specs.Right.{IsStep, Takes, TakesAll}
 use Rattle.lemma_record.specs.Parts.{PartOf, TakesIf, TakesPart, has, number_after}
 use Rattle.lemma_record.specs.Faults.{IsFirstFault, IsWrongEvent, LeadsTo}

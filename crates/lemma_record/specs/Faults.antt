@@ -9,9 +9,9 @@ use Rattle.lemma_log.specs.declared.fault.DecodeFault.TheVariants as reading
 use Rattle.lemma_log.specs.Reading.{read_in, title_in}
 use Rattle.lemma_log.specs.Logs.{Begins}
 use Rattle.lemma_book.specs.Ledger.{LedgerOf, first_ledger}
-use Rattle.lemma_record.specs.declared.fault.EventFault.{EventFault}
-use Rattle.lemma_record.specs.declared.fault.Wrong.{Wrong}
-use Rattle.lemma_record.specs.declared.fault.Wrong.TheVariants as wrong
+use Rattle.record_text.specs.declared.event_fault.EventFault.{EventFault}
+use Rattle.record_text.specs.declared.event_fault.Wrong.{Wrong}
+use Rattle.record_text.specs.declared.event_fault.Wrong.TheVariants as wrong
 use Rattle.lemma_record.specs.Right.{IsRightText, IsStep, Takes}
 use Rattle.lemma_record.specs.Parts.{IsRightIn, PartOf, TakesPart, number_after}
 

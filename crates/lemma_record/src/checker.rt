@@ -4,19 +4,19 @@ ghost use Rattle.std.specs.Prelude.{◌≡◌, ◌≢◌, ◌++◌, [], ℕ, Lis
 ghost use Rattle.network.specs.Problem.{Problem};
 ghost use Rattle.lemma_log.specs.declared.fault.DecodeFault.TheVariants.{Form, Short};
 ghost use Rattle.lemma_log.specs.Reading.{title_in};
-ghost use Rattle.lemma_record.specs.declared.fault.Wrong.TheVariants as wrongs;
+ghost use Rattle.record_text.specs.declared.event_fault.Wrong.TheVariants as wrongs;
 ghost use Rattle.lemma_record.specs.Faults.{IsFirstFault};
 ghost use Rattle.lemma_record.specs.Reached.{HasChecked, IsAt, IsAtTitle};
 ghost use Rattle.lemma_record.specs.Parts.{IsRightTextIn, whole};
 ghost use Rattle.lemma_record.specs.Right.{IsRightText};
 ghost use Rattle.lemma_record.specs.SoFar.{IsProvedSoFar};
 
-use crate::fault::{EventFault, NO_MEMORY, Wrong};
-use crate::next::{nothing_after, take_whole};
+use crate::next::{NO_MEMORY, nothing_after, take_whole};
 use crate::part::LogPart;
 use lemma_book::Draft;
 use lemma_log::{DecodeFault, is_cut_off, read_title};
 use network::{Project, Verdict};
+use record_text::{EventFault, Wrong};
 use std::alloc::{AllocError, Global};
 use std::marker::Model;
 

@@ -6,19 +6,25 @@ ghost use Rattle.lemma_log.specs.declared.fault.DecodeFault.TheVariants as read_
 ghost use Rattle.lemma_log.specs.Law.{IsFirst};
 ghost use Rattle.lemma_log.specs.Reading.{read_in};
 ghost use Rattle.lemma_book.specs.Ledger.{LedgerOf};
-ghost use Rattle.lemma_record.specs.declared.fault.Wrong.TheVariants.{Memory, Trailing};
+ghost use Rattle.record_text.specs.declared.event_fault.Wrong.TheVariants.{Memory, Trailing};
 ghost use Rattle.lemma_record.specs.Right.{Takes};
 ghost use Rattle.lemma_record.specs.Parts.{PartOf, TakesIf, has};
 ghost use Rattle.lemma_record.specs.Faults.{IsFirstFault, IsUnread, IsWrongEvent, wrong_of};
 ghost use Rattle.lemma_record.specs.Reached.{HasClaimed, HasChecked, IsAt, TakesNext, checker_of, claimed};
 
-use crate::fault::{EventFault, NO_MEMORY, Wrong};
 use crate::judging::judge;
 use crate::part::LogPart;
 use lemma_book::Draft;
 use lemma_log::{DecodeFault, Event, Read, read_event};
 use network::Verdict;
+use record_text::{EventFault, Wrong};
 use std::alloc::Global;
+
+/// Want of memory.
+pub(crate) const NO_MEMORY: EventFault = EventFault {
+    event: 0,
+    wrong: Wrong::Memory,
+};
 
 /// What is wrong with an event that is not taken.
 fn wrong_of(event: &Event) -> Wrong

@@ -1,5 +1,6 @@
 pub mod Problem
 pub mod Schedule
+pub mod Verdicts
 pub mod Walk
 pub mod Faults
 pub mod Equality

@@ -69,6 +69,11 @@ pub record ScheduleOf : Type 0 where
   pub project : Problem
   pub starts : List ℤ
 
+-- a feasible schedule of the project
+pub record IsScheduleFor (p : Problem) (schedule : ScheduleOf) : Type 0 where
+  pub project : schedule.project ≡ p
+  pub feasible : IsFeasible p schedule.starts
+
 -- ---- Forbidden sets of activities, each for one resource. Bartusch, Möhring and Radermacher (1988) call a set
 -- forbidden where some resource is asked for too much, and minimal where this holds of no proper subset for
 -- any resource; here both are said of the same resource.

@@ -8,6 +8,7 @@ mod arcs;
 mod faults;
 mod horizon;
 mod limits;
+mod outcome;
 mod parts;
 mod project;
 mod schedule;
@@ -17,6 +18,7 @@ pub use horizon::{MAX_HORIZON, horizon_law, horizon_of};
 pub use limits::{
     MAX_ACTIVITIES, MAX_AMOUNT, MAX_LAG_WEIGHT, MAX_LAGS, MAX_RESOURCES, MAX_START, MAX_WALK_WEIGHT,
 };
+pub use outcome::Outcome;
 pub use parts::{Lag, Pair, Parts, ProjectFault, Quantity};
 pub use project::Project;
 pub use schedule::Schedule;

@@ -6,15 +6,15 @@ use Rattle.std.proofs.Math.ListN.{get_or-map}
 use Rattle.std.proofs.lemmas.List.{length-map}
 use Rattle.std.proofs.lemmas.List.Elements.{All-nil, All-contains, All-weaker}
 use Rattle.network.specs.Problem.{Problem}
-use Rattle.network.specs.Schedule.{ScheduleOf, IsFeasible, makespan}
+use Rattle.network.specs.Schedule.{ScheduleOf, IsFeasible, makespan, IsScheduleFor}
 use Rattle.branching.specs.Subproblem.{Subproblem, NodeStandsFor}
 use Rattle.branching.specs.Right.{IsUnder, IsLeast}
-use Rattle.branching.specs.Fair.{IsShorterThan, IsNodeOf, IsRootOf, IsScheduleFor, ceiling_of}
+use Rattle.branching.specs.Fair.{IsShorterThan, IsNodeOf, IsRootOf, ceiling_of}
 use Rattle.plain_search.specs.Takes.{bounds_of, SearchState, IsSoundState, IsTake, Takes, no_take, one_more, IsStillOpen, IsOutcomeOf, StopsOnlyAfter}
 use Rattle.plain_search.specs.Takes.{first_state}
-use Rattle.plain_search.specs.Verdicts.{IsTrueOf, StopsBelowBest}
-use Rattle.plain_search.specs.declared.search.Outcome.{Outcome}
-use Rattle.plain_search.specs.declared.search.Outcome.TheVariants.{Optimal, NoSchedule, Stopped}
+use Rattle.network.specs.Verdicts.{IsTrueOf, StopsBelowBest}
+use Rattle.network.specs.declared.outcome.Outcome.{Outcome}
+use Rattle.network.specs.declared.outcome.Outcome.TheVariants.{Optimal, NoSchedule, Stopped}
 use Rattle.branching.proofs.Covers.{none_stands}
 use Rattle.branching.proofs.OrderedPairs.{contains_map}
 

@@ -6,8 +6,8 @@ use Rattle.network.specs.Schedule.{ScheduleOf}
 use Rattle.branching.specs.Subproblem.{Subproblem}
 use Rattle.branching.specs.Fair.{IsCovered, Expansion, IsReport, IsReportOn, IsRootOf, IsShorterOf, ceiling_of}
 use Rattle.branching.specs.Right.{IsUnder, IsLeast}
-use Rattle.plain_search.specs.declared.search.Outcome.{Outcome}
-use Rattle.plain_search.specs.declared.search.Outcome.TheVariants.{Optimal, NoSchedule, Stopped}
+use Rattle.network.specs.declared.outcome.Outcome.{Outcome}
+use Rattle.network.specs.declared.outcome.Outcome.TheVariants.{Optimal, NoSchedule, Stopped}
 use Rattle.std.specs.Arc.{arc_value}
 use Rattle.plain_search.specs.declared.search.Search.TheInside.{Inside}
 

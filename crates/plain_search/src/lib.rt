@@ -3,4 +3,4 @@
 
 mod search;
 
-pub use search::{MAX_EXPANDED, Outcome, search_alone};
+pub use search::{MAX_EXPANDED, search_alone};

@@ -6,26 +6,14 @@ ghost use Rattle.branching.specs.Fair.{IsRootOf, IsShorterOf, ceiling_of};
 ghost use Rattle.branching.specs.Right.{IsLeast};
 ghost use Rattle.branching.specs.Subproblem.{Subproblem};
 ghost use Rattle.plain_search.specs.Takes.{bounds_of, PopsUnder, IsTake, IsOutcomeOf, StopsOnlyAfter, first_state};
-ghost use Rattle.plain_search.specs.Verdicts.{IsTrueOf, StopsBelowBest};
+ghost use Rattle.network.specs.Verdicts.{IsTrueOf, StopsBelowBest};
 
 use branching::{OpenNode, Searcher, is_below, lesser, makespan_of, open_root};
 use longest_path::PathFault;
-use network::{Project, Schedule};
+use network::{Outcome, Project, Schedule};
 use std::alloc::{AllocError, Global};
 use std::marker::Model;
 use std::sync::Arc;
-
-/// How a search ended.
-#[derive(Drop, Debug)]
-pub enum Outcome {
-    /// A feasible schedule, and none is shorter.
-    Optimal(Schedule),
-    /// The project has no feasible schedule.
-    NoSchedule,
-    /// A limit stopped the search. The bound, in periods, is at most every feasible makespan. With one thread it is
-    /// below the makespan of the best schedule, if there is one.
-    Stopped { best: Option<Schedule>, bound: i64 },
-}
 
 /// The most nodes that a search may be asked to take.
 pub const MAX_EXPANDED: u64 = 1_000_000_000;

@@ -2,9 +2,9 @@
 use Rattle.std.proofs.Common.{◌≡◌, ℕ, Bool, true, false, List, Option, None, Some, refl, sym, ap, ◌∙◌, IfSome, IsSome, ◌↔◌, Result, Ok, Err, IfOk, IfErr}
 use Rattle.network.specs.Problem.{Problem, IsProject}
 use Rattle.network.specs.Schedule.{ScheduleOf, makespan}
-use Rattle.plain_search.specs.Verdicts.{IsNoLongerThan, IsTrueOf}
-use Rattle.plain_search.specs.declared.search.Outcome.{Outcome}
-use Rattle.plain_search.specs.declared.search.Outcome.TheVariants.{Optimal, NoSchedule, Stopped}
+use Rattle.network.specs.Verdicts.{IsNoLongerThan, IsTrueOf}
+use Rattle.network.specs.declared.outcome.Outcome.{Outcome}
+use Rattle.network.specs.declared.outcome.Outcome.TheVariants.{Optimal, NoSchedule, Stopped}
 use Rattle.record_text.specs.declared.line.Claim.{Claim}
 use Rattle.sch_reader.specs.Text.{Spells}
 use Rattle.search_record.specs.Right.{claim_of}

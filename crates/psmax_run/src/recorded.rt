@@ -2,14 +2,14 @@
 
 ghost use Rattle.std.specs.Prelude.{◌≡◌, IfOk, IfSome, option_map};
 ghost use Rattle.search_log.specs.RightTrail.{IsWholeTree};
-ghost use Rattle.branching.specs.Fair.{ceiling_of, IsScheduleFor};
+ghost use Rattle.branching.specs.Fair.{ceiling_of};
+ghost use Rattle.network.specs.Schedule.{IsScheduleFor};
 ghost use Rattle.search_record.specs.Right.{claim_of};
-ghost use Rattle.plain_search.specs.Verdicts.{best_of};
+ghost use Rattle.network.specs.Verdicts.{best_of};
 ghost use Rattle.worker.specs.Solving.{IsTrailOf};
 ghost use Rattle.psmax_run.specs.Searches.{IsOutcomeRecord, IsTextOf};
 
-use network::Schedule;
-use plain_search::Outcome;
+use network::{Outcome, Schedule};
 use search_log::SearchLog;
 use search_record::of_trail;
 use std::alloc::{AllocError, Global};

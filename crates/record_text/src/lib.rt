@@ -5,6 +5,7 @@
 //! a project is no matter of this crate.
 #![tactic(auto)]
 
+mod event_fault;
 mod fault;
 mod fields;
 mod kind;
@@ -18,6 +19,7 @@ mod starts;
 mod text_rows;
 mod write;
 
+pub use event_fault::{EventFault, Wrong};
 pub use fault::{RecordFault, RecordFaultKind};
 pub use fields::{MAX_NUMBER_DIGITS, number, numbers, numbers_after, split_field};
 pub use kind::RecordLine;

@@ -2,8 +2,8 @@
 use Rattle.std.proofs.Common.{◌≡◌, ◌≢◌, ℕ, List, [], ◌++◌, Option, None, Some, sym, ap, ◌∙◌, subst, refl, append-nil, append_assoc}
 use Rattle.std.specs.Io.KnownBytes.{Consumes, IsAtEnd}
 use Rattle.network.specs.Problem.{Problem}
-use Rattle.lemma_record.specs.declared.fault.EventFault.{EventFault}
-use Rattle.lemma_record.specs.declared.fault.Wrong.TheVariants as wrong
+use Rattle.record_text.specs.declared.event_fault.EventFault.{EventFault}
+use Rattle.record_text.specs.declared.event_fault.Wrong.TheVariants as wrong
 use Rattle.lemma_record.specs.Faults.{IsFirstFault}
 use Rattle.answers.specs.Faults.{event_fault_of, exit_of, wrong_fault}
 use Rattle.runs.specs.declared.scope.Scope.{Scope}

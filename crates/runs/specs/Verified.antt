@@ -11,7 +11,7 @@ use Rattle.record_text.specs.Tree.{SearchRecord}
 use Rattle.record_text.specs.declared.fault.RecordFault.{RecordFault}
 use Rattle.search_record.specs.Right as wrongs
 use Rattle.search_record.specs.Right.{search_judge}
-use Rattle.lemma_record.specs.declared.fault.EventFault.{EventFault}
+use Rattle.record_text.specs.declared.event_fault.EventFault.{EventFault}
 use Rattle.lemma_record.specs.Faults.{IsFirstFault}
 use Rattle.lemma_record.specs.Parts.{IsRightTextIn, PartOf, whole}
 use Rattle.lemma_record.specs.Right.{IsRightText}

@@ -6,9 +6,9 @@ use Rattle.std.specs.Result.{result_err}
 use Rattle.network.specs.Problem.{Problem}
 use Rattle.network.specs.Schedule.{ScheduleOf, makespan}
 use Rattle.branching.specs.Fair.{ceiling_of}
-use Rattle.plain_search.specs.Verdicts.{IsNoLongerThan, IsTrueOf, best_of}
-use Rattle.plain_search.specs.declared.search.Outcome.{Outcome}
-use Rattle.plain_search.specs.declared.search.Outcome.TheVariants.{Optimal, NoSchedule, Stopped}
+use Rattle.network.specs.Verdicts.{IsNoLongerThan, IsTrueOf, best_of}
+use Rattle.network.specs.declared.outcome.Outcome.{Outcome}
+use Rattle.network.specs.declared.outcome.Outcome.TheVariants.{Optimal, NoSchedule, Stopped}
 use Rattle.branching.specs.Right.{IsLeast}
 use Rattle.book.specs.State.{BookState, live, AddUp}
 use Rattle.search_log.specs.SearchLog.{TrailOf}

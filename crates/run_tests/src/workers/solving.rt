@@ -3,8 +3,7 @@
 use crate::gates::{HoldingGate, Holds, Seen};
 use crate::workers::asked::{WorkerRow, asked_by, project_of, schedule_of};
 use book::Counts;
-use network::Schedule;
-use plain_search::Outcome;
+use network::{Outcome, Schedule};
 use std::alloc::{AllocError, Global};
 use std::sync::{Arc, Wait};
 use std::test::Fail;

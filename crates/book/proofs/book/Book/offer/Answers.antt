@@ -1,9 +1,9 @@
 use Rattle.std.proofs.Common.{◌≡◌, Option, Some, true, refl, subst, rules, IfSome}
 use Rattle.std.specs.Arc.{arc_value}
 use Rattle.network.specs.Problem.{Problem}
-use Rattle.network.specs.Schedule.{ScheduleOf, IsFeasible, makespan}
+use Rattle.network.specs.Schedule.{ScheduleOf, IsFeasible, makespan, IsScheduleFor}
 use Rattle.branching.specs.Right.{IsUnder}
-use Rattle.branching.specs.Fair.{IsScheduleFor, ceiling_of}
+use Rattle.branching.specs.Fair.{ceiling_of}
 use Rattle.book.specs.Views.{state_of}
 use Rattle.book.proofs.Steps.{kept_improved}
 use Rattle.book.proofs.book.Book.offer.Goals as goal

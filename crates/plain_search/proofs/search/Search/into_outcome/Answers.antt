@@ -4,7 +4,7 @@ use Rattle.std.specs.Arc.{arc_value}
 use Rattle.network.specs.Schedule.{makespan}
 use Rattle.branching.specs.Right.{IsLeast}
 use Rattle.plain_search.specs.Takes.{SearchState, IsSoundState, bounds_of, IsOutcomeOf}
-pub use Rattle.plain_search.specs.declared.search.Outcome.TheVariants.{Optimal, Stopped}
+pub use Rattle.network.specs.declared.outcome.Outcome.TheVariants.{Optimal, Stopped}
 use Rattle.plain_search.proofs.Outcomes.{stopped, optimal, outcome_true}
 use Rattle.plain_search.proofs.search.Search.into_outcome.Goals as goal
 

@@ -1,7 +1,7 @@
 //! Why a log is not right.
 
 ghost use Rattle.std.specs.Prelude.{◌≡◌};
-ghost use Rattle.lemma_record.specs.declared.fault.Wrong.TheVariants.{Memory};
+ghost use Rattle.record_text.specs.declared.event_fault.Wrong.TheVariants.{Memory};
 
 use std::alloc::{AllocError, AllocFailed};
 use thiserror::Error;
@@ -46,16 +46,13 @@ pub struct EventFault {
     pub wrong: Wrong,
 }
 
-/// Want of memory.
-pub(crate) const NO_MEMORY: EventFault = EventFault {
-    event: 0,
-    wrong: Wrong::Memory,
-};
-
 impl From<AllocError> for EventFault {
     ghost from_gives = { λ _ fault. fault ≡ record { event = 0; wrong = Memory } };
 
     fn from(_e: AllocError) -> EventFault {
-        NO_MEMORY
+        EventFault {
+            event: 0,
+            wrong: Wrong::Memory,
+        }
     }
 }

@@ -1,12 +1,11 @@
 -- When the outcome of a search is true of its project.
 use Rattle.std.specs.Prelude.{ℤ, ◌≤ℤ◌, ◌<ℤ◌, Option, Some, None, IfSome, IsSomeAnd}
 use Rattle.network.specs.Problem.{Problem}
-use Rattle.network.specs.Schedule.{ScheduleOf, makespan, IsTrueVerdict}
+use Rattle.network.specs.Schedule.{ScheduleOf, IsScheduleFor, makespan, IsTrueVerdict}
 use Rattle.network.specs.declared.verdict.Verdict.{Verdict}
 use Rattle.network.specs.declared.verdict.Verdict.TheVariants as verdict
-use Rattle.branching.specs.Fair.{IsScheduleFor}
-use Rattle.plain_search.specs.declared.search.Outcome.{Outcome}
-use Rattle.plain_search.specs.declared.search.Outcome.TheVariants.{Optimal, NoSchedule, Stopped}
+use Rattle.network.specs.declared.outcome.Outcome.{Outcome}
+use Rattle.network.specs.declared.outcome.Outcome.TheVariants.{Optimal, NoSchedule, Stopped}
 
 -- the verdict of an outcome
 abbrev pub verdict_of : Outcome → Verdict
