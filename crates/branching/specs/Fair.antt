@@ -2,7 +2,7 @@
 use Rattle.std.specs.Prelude.{◌≡◌, ◌≤◌, ℤ, ◌<ℤ◌, Option, None, IfSome, MatchOption, List, [], length, map, ◌⊎◌, Some}
 use Rattle.std.specs.List.{All, Any}
 use Rattle.network.specs.declared.parts.Pair.{Pair}
-use Rattle.network.specs.Schedule.{ScheduleOf, Keeps, IsLeastSchedule, makespan, IsFeasible}
+use Rattle.network.specs.Schedule.{ScheduleOf, IsScheduleFor, Keeps, IsLeastSchedule, makespan, IsFeasible}
 use Rattle.forbidden_sets.specs.MinimalSet.{MinimalSet}
 use Rattle.branching.specs.declared.report.TheConstants.{MAX_CHILDREN}
 use Rattle.branching.specs.Subproblem.{Subproblem, NodeStandsFor, IsNode, ordered_pairs}
