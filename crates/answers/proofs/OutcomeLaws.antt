@@ -3,8 +3,7 @@ use Rattle.std.proofs.Common.{◌≡◌, true, false, Some, None, inl, inr, arit
 use Rattle.std.proofs.Common.{append_assoc, codes}
 use Rattle.network.specs.declared.outcome.Outcome.{Outcome}
 use Rattle.network.specs.declared.outcome.Outcome.TheVariants.{Optimal, NoSchedule, Stopped}
-use Rattle.plain_search.specs.Takes.{StopsOnlyAfter}
-use Rattle.answers.specs.Outcomes.{AloneIsTrue, FoundIsTrue, SaidIsTrue, SaysOutcome, IsStoppedText}
+use Rattle.answers.specs.Outcomes.{FoundIsTrue, SaidIsTrue}
 use Rattle.std.specs.List.{join_with_byte}
 use Rattle.std.specs.Fmt.{signed_decimal}
 use Rattle.json.specs.Print.{escape, escape_byte}
@@ -58,16 +57,6 @@ found_is_true p (Some from) (Stopped (Some best) bound) json exit written is wit
   status = said.0;
 })
 found_is_true p (Some from) (Stopped None bound) json exit written is within said = absurd within
-
-pub alone_is_true : AloneIsTrue
-alone_is_true p takes outcome json exit written is below only said = record {
-  said = said_is_true p outcome true json exit written is (λ _. below) said;
-  stopped = stopped outcome only said;
-}
-  where
-    stopped : (outcome : Outcome) → StopsOnlyAfter p takes outcome → SaysOutcome outcome json exit written → exit ≡ 3 → IsStoppedText p takes json exit written
-    stopped (Stopped best bound) only said three = record { outcome = Stopped best bound; after = only; says = said }
-    stopped outcome only said three = let zero = said.0 in absurd (omega (arith, zero, three))
 
 -- ---- The answer as JSON: it has no float, and its compact text is the line.
 

@@ -8,12 +8,9 @@ use Rattle.serde_json.specs.View.{items_of}
 use Rattle.network.specs.Problem.{Problem, rules}
 use Rattle.network.specs.Schedule.{IsLeastSchedule, IsFeasible, makespan, IsLowerBound, IsShortest, HasNoSchedule, IsTrueVerdict}
 use Rattle.network.specs.Walk.{IsLeastCycleTop}
-use Rattle.sch_reader.specs.Text.{canonical_text}
 use Rattle.schedule_check.specs.declared.violation.Violation.{Violation}
 use Rattle.schedule_check.specs.declared.violation.Violation.TheVariants as violation
 use Rattle.schedule_check.specs.Violations.{violations}
-use Rattle.record_text.specs.Kinds.{Kind, RecordOf}
-use Rattle.record_text.specs.FirstWrong.{Judge, IsRightBy}
 use Rattle.network.specs.declared.verdict.Verdict.{Verdict}
 use Rattle.network.specs.declared.verdict.Verdict.TheVariants as verdict
 
@@ -118,27 +115,12 @@ pub record IsViolationsText (p : Problem) (starts : List ℤ) (exit : ℕ) (writ
 abbrev pub IsCheckText : Problem → List ℤ → ℕ → List ℕ → Type 0
 IsCheckText p starts exit written = IsFeasibleText p starts exit written ⊎ IsViolationsText p starts exit written
 
--- ---- what `tidy` says
-
--- the canonical text of the project
-pub record IsTidyText (p : Problem) (exit : ℕ) (written : List ℕ) : Type 0 where
-  pub text : written ≡ canonical_text p
-  pub status : exit ≡ 0
-
 -- ---- what `verify` says
 
 abbrev pub proved_line : Verdict → List ℕ
 proved_line (verdict.Optimal makespan) = codes "proved optimal " ++ (signed_decimal makespan ++ codes "\n")
 proved_line (verdict.Bound bound) = codes "proved bound " ++ (signed_decimal bound ++ codes "\n")
 proved_line verdict.NoSchedule = codes "proved no schedule\n"
-
--- the record is right for the project: what it claims, which is true
-pub record IsProvedText
-    {Claim Line : Type 0} (k : Kind Claim Line) (j : Judge Claim Line) (p : Problem) (shown : RecordOf Claim Line)
-    (written : List ℕ) : Type 0 where
-  pub right : IsRightBy j p shown
-  pub true_of : IsTrueVerdict p (k.says shown.claim)
-  pub text : written ≡ proved_line (k.says shown.claim)
 
 -- ---- what `solve` says
 

@@ -1,23 +1,29 @@
 //! `psmax`: solves projects with resources and time lags, and proves every answer.
 #![tactic(auto)]
 
-ghost use Rattle.calls.specs.Calls.{IsCall, IsPsmaxCall};
-ghost use Rattle.runs.specs.Outcome.{IsJob, has_workers};
-ghost use Rattle.runs.specs.declared.job.Job.TheVariants as jobs;
+ghost use Rattle.psmax.specs.Calls.{IsCall, IsPsmaxCall};
+ghost use Rattle.psmax_run.specs.Jobs.{IsJob, has_workers};
+ghost use Rattle.psmax_run.specs.declared.job.Job.TheVariants as jobs;
 ghost use Rattle.std.specs.Prelude.{◌≡◌, false, true, IfOk};
 
-use call_files::Opener;
-use calls::{
-    ArgumentsFault, Call, FOLDER, PsmaxCall, call_of, refuse, refuse_files, report, verify, words,
-};
-use psmax_run::run_parallel;
-use runs::{InputReader, OutputWriter, RecordKind, SearchOptions, run};
+mod call;
+mod commands;
+mod help;
+#[cfg(test)]
+mod tests;
+
+use call::{Call, PsmaxCall};
+use command_line::{ArgumentsFault, FOLDER, read_arguments, refuse, refuse_files, report, verify};
+use commands::call_of;
+use devices::{InputReader, Opener, OutputWriter};
+use psmax_run::{SearchOptions, run, run_parallel};
 use std::alloc::Global;
 use std::process::ExitCode;
 use std::rt::Runtime;
 use std::sync::Wait;
 use std::thread::Threads;
 use std::{fs, io};
+use verify_run::RecordKind;
 use worker::OpenGate;
 
 /// The program's name in what it prints.
@@ -72,7 +78,7 @@ fn search<R: Runtime + Threads + Wait + Sync>(
 fn line_call(rt: &HostRuntime) -> Result<PsmaxCall, ArgumentsFault>
     ensures { IfOk result IsPsmaxCall }
 {
-    call_of(rt.alloc(), &words(rt)?)
+    call_of(rt.alloc(), &read_arguments(rt)?)
 }
 
 fn main(rt: HostRuntime) -> ExitCode {

@@ -1,1 +1,2 @@
-mod RecordLaws
+pub mod JobLaws
+pub mod RecordLaws

@@ -10,10 +10,11 @@ use Rattle.sch_reader.specs.Text.{Spells}
 use Rattle.search_record.specs.Right.{claim_of}
 use Rattle.answers.proofs.OutcomeLaws.{found_is_true}
 use Rattle.answers.specs.Answers.{IsFoundText}
-use Rattle.answers.specs.Outcomes.{SaysOutcome, IsRightRecord, claim_text}
-use Rattle.runs.specs.declared.job.SearchOptions.{SearchOptions}
-use Rattle.runs.specs.Outcome.{SpellsOne}
-use Rattle.runs.specs.Runs.{ReplyOf}
+use Rattle.answers.specs.Outcomes.{SaysOutcome}
+use Rattle.psmax_run.specs.Outcomes.{IsRightRecord, claim_text}
+use Rattle.psmax_run.specs.declared.job.SearchOptions.{SearchOptions}
+use Rattle.devices.specs.Texts.{SpellsOne}
+use Rattle.devices.specs.Runs.{ReplyOf}
 use Rattle.psmax_run.specs.Searches.{IsOutcomeRecord, IsSearchReply, IsTextOf, starts_from}
 
 -- a record of what is claimed is one of what the answer says

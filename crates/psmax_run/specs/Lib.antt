@@ -1,1 +1,4 @@
+pub mod Outcomes
+pub mod Jobs
+pub mod Runs
 pub mod Searches

@@ -9,14 +9,15 @@ use Rattle.record_text.specs.Tree.{SearchRecord}
 use Rattle.record_text.specs.Kinds.{record_text}
 use Rattle.record_text.specs.Text.{search_kind}
 use Rattle.search_record.specs.Right.{claim_of, IsRight}
-use Rattle.answers.specs.declared.fault.Fault.{Fault}
-use Rattle.answers.specs.declared.fault.Fault.TheVariants as faults
+use Rattle.devices.specs.declared.fault.Fault.{Fault}
+use Rattle.devices.specs.declared.fault.Fault.TheVariants as faults
 use Rattle.answers.specs.Answers.{IsFoundText}
-use Rattle.answers.specs.Outcomes.{IsRightRecord}
-use Rattle.runs.specs.declared.job.Job.TheVariants as jobs
-use Rattle.runs.specs.declared.job.SearchOptions.{SearchOptions}
-use Rattle.runs.specs.Outcome.{worker_count}
-use Rattle.runs.specs.Runs.{ReplyOf, RecordsWhereAsked}
+use Rattle.psmax_run.specs.Outcomes.{IsRightRecord}
+use Rattle.psmax_run.specs.declared.job.Job.TheVariants as jobs
+use Rattle.psmax_run.specs.declared.job.SearchOptions.{SearchOptions}
+use Rattle.psmax_run.specs.Jobs.{worker_count}
+use Rattle.devices.specs.Runs.{ReplyOf}
+use Rattle.psmax_run.specs.Runs.{RecordsWhereAsked}
 use Rattle.worker.specs.Solving.{IsStopped}
 use Rattle.worker.specs.declared.fault.SolveFault.{SolveFault}
 use Rattle.worker.specs.declared.fault.SolveFault.TheVariants as solve_faults

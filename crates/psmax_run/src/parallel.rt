@@ -1,15 +1,17 @@
 //! A run over devices in which workers search.
 
 ghost use Rattle.std.specs.Prelude.{◌≡◌, ◌≢◌, ◌<◌, true, Some, Err, IfOk, IfErr, IfSome, IfNone};
-ghost use Rattle.answers.specs.declared.fault.Fault.TheVariants as faults;
-ghost use Rattle.answers.specs.Faults.{exit_of};
-ghost use Rattle.runs.specs.declared.job.Job.TheVariants as jobs;
-ghost use Rattle.runs.specs.Runs.{span, IsUntouched, OneFailedWhere, HasRead, IsCutShort, IsNoReply, IsReply, IsWritten, RecordsWhereAsked, Replies};
-ghost use Rattle.runs.specs.Outcome.{IsJob, has_workers, search_inputs, IfTextsKnown};
+ghost use Rattle.devices.specs.declared.fault.Fault.TheVariants as faults;
+ghost use Rattle.devices.specs.Faults.{exit_of};
+ghost use Rattle.psmax_run.specs.declared.job.Job.TheVariants as jobs;
+ghost use Rattle.devices.specs.Runs.{span, IsUntouched, OneFailedWhere, HasRead, IsCutShort, IsWritten};
+ghost use Rattle.psmax_run.specs.Runs.{IsNoReply, IsReply, RecordsWhereAsked, Replies};
+ghost use Rattle.psmax_run.specs.Jobs.{IsJob, has_workers};
+ghost use Rattle.devices.specs.Texts.{search_inputs, IfTextsKnown};
 
+use crate::job::SearchOptions;
 use crate::workers::{searched, searched_from};
-use answers::Fault;
-use runs::{Ended, Input, Output, Reply, SearchOptions, read_project, read_text, write_reply};
+use devices::{Ended, Fault, Input, Output, Reply, read_project, read_text, write_reply};
 use std::alloc::Global;
 use std::sync::{Arc, Wait};
 use std::thread::Threads;

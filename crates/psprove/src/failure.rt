@@ -1,11 +1,10 @@
 //! Why a call has no answer.
 
 use crate::PROGRAM;
-use answers::{Answer, Fault};
-use call_files::{FileFault, FileNames};
-use calls::{refuse_file, refuse_files, report};
+use answers::Answer;
+use command_line::{refuse_file, refuse_files, report};
 use cube_text::TextFault;
-use runs::Ended;
+use devices::{Ended, Fault, FileFault, FileNames};
 use session::CubeFault;
 use std::alloc::{AllocError, AllocFailed};
 use std::io::{self, ErrorKind, Write};

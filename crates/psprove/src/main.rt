@@ -2,7 +2,7 @@
 //! checks what others claim of them.
 #![tactic(auto)]
 
-mod command_line;
+mod commands;
 mod cube;
 mod failure;
 mod files;
@@ -14,19 +14,19 @@ mod record_file;
 mod reports;
 mod solve;
 
-use answers::Fault;
-use calls::{FOLDER, refuse, report, verify};
-use command_line::{Subcommand, work_of};
+use command_line::{FOLDER, refuse, report, verify};
+use commands::{Subcommand, work_of};
 use cube::solve_cube;
+use devices::{Ended, Fault};
 use failure::Failure;
 use following::{ear, listen};
-use runs::{Ended, RecordKind};
 use solve::solve;
 use std::io::IsTerminal;
 use std::process::ExitCode;
 use std::rt::Runtime;
 use std::sync::Arc;
 use std::{fs, thread};
+use verify_run::RecordKind;
 
 /// The program's name in what it prints.
 pub(crate) const PROGRAM: &str = "psprove";

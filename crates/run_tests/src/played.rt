@@ -1,8 +1,7 @@
 //! Runs of psmax, played from lines of data.
 
 use crate::gates::{HoldingGate, Holds};
-use answers::Fault;
-use runs::{OutputWriter, write_all};
+use devices::{Fault, OutputWriter, write_all};
 use std::alloc::{AllocError, Global};
 use std::process::Abort;
 use std::sync::Wait;
@@ -208,47 +207,6 @@ fn outputs_are_handed_all_that_is_left(rt: HostRuntime) -> Result<(), Fail> {
         let out = out.into_inner();
         assert_eq!(&rt; out.taken.as_slice(), CANONICAL.as_bytes());
         assert_eq!(&rt; out.writes, CANONICAL.len().div_ceil(chunk));
-    }
-    Ok(())
-}
-
-#[test]
-fn words_make_calls(rt: HostRuntime) -> Result<(), Fail> {
-    let rows = [
-        "earliest -> Earliest, second false, record false",
-        "check --project p.sch -> Check, second true, record false",
-        "tidy -> Tidy, second false, record false",
-        "verify --project p.sch -> VerifyCall { project: \"p.sch\", scope: Whole }",
-        "solve --nodes 7 -> Solve(SearchOptions { workers: None, nodes: 7, start: false, json: false, \
-            recorded: false }), second false, record false",
-        "solve --json -> Solve(SearchOptions { workers: None, nodes: 1000000, start: false, json: true, \
-            recorded: false }), second false, record false",
-        "solve --workers 64 -> Solve(SearchOptions { workers: Some(64), nodes: 1000000, start: false, \
-            json: false, recorded: false }), second false, record false",
-        "solve --nodes 1000000000 --workers 3 -> Solve(SearchOptions { workers: Some(3), nodes: 1000000000, \
-            start: false, json: false, recorded: false }), second false, record false",
-        "solve --workers 3 --start s -> Solve(SearchOptions { workers: Some(3), nodes: 1000000, start: true, \
-            json: false, recorded: false }), second true, record false",
-        "solve --workers 3 --json -> Solve(SearchOptions { workers: Some(3), nodes: 1000000, start: false, \
-            json: true, recorded: false }), second false, record false",
-        "solve --workers 3 --record r -> Solve(SearchOptions { workers: Some(3), nodes: 1000000, start: false, \
-            json: false, recorded: true }), second false, record true",
-        "solve --start s --json --record r -> Solve(SearchOptions { workers: None, nodes: 1000000, start: true, \
-            json: true, recorded: true }), second true, record true",
-        "solve --start s -> Solve(SearchOptions { workers: None, nodes: 1000000, start: true, json: false, \
-            recorded: false }), second true, record false",
-        "solve --record r -> Solve(SearchOptions { workers: None, nodes: 1000000, start: false, json: false, \
-            recorded: true }), second false, record true",
-        "solve --nodes 0 -> bad words",
-        "solve --workers 65 -> bad words",
-        "latest -> bad words",
-        "help -> bad words",
-        "--help -> help",
-    ];
-    for row in rows {
-        let (line, wanted) = row.split_once(" -> ").unwrap_or((row, ""));
-        let told = row::call_text(rt.alloc(), line)?;
-        assert_eq!(&rt; told.as_str(), wanted);
     }
     Ok(())
 }

@@ -2,9 +2,9 @@
 
 use crate::recorder::Before;
 use crate::session::{Session, SessionFault};
+use devices::Output;
 use lemma_record::Naming;
 use network::Project;
-use runs::Output;
 use strategies::Finder;
 
 /// What is known of a project by now.

@@ -1,72 +1,75 @@
 //! Calls that are played through devices, and what they have to tell.
 
-ghost use Rattle.std.specs.Prelude.{◌<◌, IfOk};
-ghost use Rattle.calls.specs.Calls.{IsPsmaxCall};
+ghost use Rattle.std.specs.Prelude.{◌<◌, IfOk, IfSome};
+ghost use Rattle.psmax_run.specs.Jobs.{IsJob};
 
 use crate::gates::HoldingGate;
 use crate::played::devices::{giving, taking};
 use crate::played::text_of;
-use calls::{ArgumentsFault, PsmaxCall, call_of};
-use psmax_run::run_parallel;
-use runs::{Ended, Input, InputReader, Output, OutputWriter, RecordKind, Scope, run, run_verify};
-use std::alloc::{AllocError, Global};
+use book::are_allowed;
+use devices::{Ended, Input, InputReader, Output, OutputWriter};
+use psmax_run::{Job, ONE_WORKER, SearchOptions, run, run_parallel};
+use std::alloc::Global;
+use std::str::FromStr;
 use std::sync::Wait;
 use std::test::Fail;
 use std::thread::Threads;
+use verify_run::{RecordKind, Scope, run_verify};
 
-/// The words of a line, with the program's name before them.
-fn words_of(alloc: Global, line: &str) -> Result<Vec<String>, AllocError> {
-    let mut words = Vec::new(alloc);
-    words.push(String::from_str(alloc, "psmax")?)?;
-    for word in line.split(' ') {
-        words.push(String::from_str(alloc, word)?)?;
-    }
-    Ok(words)
+/// The number behind an option in words, if it is there.
+fn number_after<T: FromStr>(line: &str, option: &str) -> Option<T> {
+    let (_, rest) = line.split_once(option)?;
+    let word = rest.split_whitespace().next()?;
+    word.parse().ok()
 }
 
-/// The call that the words of a line make.
-pub(super) fn call_text(alloc: Global, line: &str) -> Result<String, AllocError> {
-    match call_of(alloc, &words_of(alloc, line)?) {
-        Ok(PsmaxCall::Verify(call)) => format!(in alloc; "{call:?}"),
-        Ok(PsmaxCall::Run(call)) => {
-            let (second, record) = (
-                call.names.second.is_some(),
-                call.names.record_file.is_some(),
-            );
-            format!(in alloc; "{:?}, second {second}, record {record}", call.job)
-        }
-        Err(ArgumentsFault::Help { .. }) => String::from_str(alloc, "help"),
-        Err(ArgumentsFault::Bad { .. } | ArgumentsFault::NoText) => String::from_str(
-            alloc,
-            "bad words",
-        ),
-        Err(ArgumentsFault::Memory) => Err(AllocError),
+/// The job that words ask for, with a million nodes unless they say otherwise. None of `verify`.
+fn job_of(line: &str) -> Result<Option<Job>, Fail>
+    ensures { IfOk result (λ job. IfSome job IsJob) }
+{
+    match line.split(' ').next() {
+        Some("verify") => return Ok(None),
+        Some("check") => return Ok(Some(Job::Check)),
+        Some("tidy") => return Ok(Some(Job::Tidy)),
+        _ => {}
     }
+    let workers = number_after(line, "--workers");
+    let nodes = number_after(line, "--nodes").unwrap_or(1_000_000);
+    if !are_allowed(workers.unwrap_or(ONE_WORKER), nodes) {
+        return Err("these words make no job".into());
+    }
+    Ok(Some(Job::Solve(SearchOptions {
+        workers,
+        nodes,
+        start: line.contains("--start"),
+        json: line.contains("--json"),
+        recorded: line.contains("--record"),
+    })))
 }
 
-/// How a call ends on these devices.
+/// How a job, or `verify`, ends on these devices.
 fn ended_of<I: Input, S: Input, O: Output, D: Output, R: Threads + Wait + Sync>(
     rt: &R,
     alloc: Global,
-    call: &PsmaxCall,
+    job: Option<Job>,
     input: &mut I,
     second: &mut S,
     out: &mut O,
     record: &mut D,
     gate: &HoldingGate,
 ) -> Ended
-    requires call { IsPsmaxCall call.now }
+    requires job { IfSome job IsJob }
     requires input { I.failed input.old < u64.MAX }
     requires second { S.failed second.old < u64.MAX }
     requires out { O.failed out.old < u64.MAX }
     requires record { D.failed record.old < u64.MAX }
 {
-    let PsmaxCall::Run(call) = call else {
+    let Some(job) = job else {
         return run_verify(alloc, &Scope::Whole, RecordKind::Tree, input, second, out);
     };
-    match call.job.by_workers() {
+    match job.by_workers() {
         Some(options) => run_parallel(rt, alloc, options, input, second, out, record, gate),
-        None => run(alloc, call.job, input, second, out),
+        None => run(alloc, job, input, second, out),
     }
 }
 
@@ -116,17 +119,6 @@ impl<'a> Row<'a> {
         }
     }
 
-    /// The call that the words make.
-    fn call(&self, alloc: Global) -> Result<PsmaxCall, Fail>
-        ensures { IfOk result IsPsmaxCall }
-    {
-        match call_of(alloc, &words_of(alloc, self.line)?) {
-            Ok(call) => Ok(call),
-            Err(ArgumentsFault::Memory) => Err(AllocError.into()),
-            Err(_) => Err("these words make no call".into()),
-        }
-    }
-
     /// What the call tells.
     pub(super) fn told<R: Threads + Wait + Sync>(
         &self,
@@ -134,7 +126,7 @@ impl<'a> Row<'a> {
         alloc: Global,
         gate: &HoldingGate,
     ) -> Result<String, Fail> {
-        let call = self.call(alloc)?;
+        let job = job_of(self.line)?;
         let [text, second] = self.texts;
         let mut input = InputReader::new(giving(text));
         let mut second = InputReader::new(giving(second));
@@ -143,7 +135,7 @@ impl<'a> Row<'a> {
         let ended = ended_of(
             rt,
             alloc,
-            &call,
+            job,
             &mut input,
             &mut second,
             &mut out,

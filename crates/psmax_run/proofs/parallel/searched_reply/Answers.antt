@@ -2,8 +2,9 @@ use Rattle.std.proofs.Common.{◌≡◌, ◌∙◌, true, false, rules}
 use Rattle.std.proofs.lemmas.Result.{MatchResult-weaker}
 use Rattle.network.specs.Schedule.{IsFeasible}
 use Rattle.answers.specs.Answers.{IsStartedText}
-use Rattle.runs.proofs.CallLaws.{answers_started, answers_unstarted, refuses_start}
-use Rattle.runs.proofs.TextLaws.{starts_whole, starts_fault_whole}
+use Rattle.psmax_run.proofs.JobLaws.{answers_started, answers_unstarted}
+use Rattle.devices.proofs.TextLaws.{refuses_start}
+use Rattle.devices.proofs.TextLaws.{starts_whole, starts_fault_whole}
 use Rattle.psmax_run.proofs.RecordLaws.{ok_both, err_both, spells_record}
 use Rattle.psmax_run.proofs.parallel.searched_reply.Goals as goal
 

@@ -1,0 +1,98 @@
+//! The command `verify`, which both programs have.
+
+use crate::arguments::{ArgumentsFault, file_name};
+use crate::help;
+use crate::options::{flag, project_subcommand};
+use crate::program::{refuse_file, report};
+use clap::{Arg, ArgAction, ArgMatches, Command};
+use devices::{Ended, Fault, InputReader, OutputWriter};
+use std::alloc::{AllocError, Global};
+use std::fs;
+use std::io::{self, ErrorKind};
+use std::process::ExitCode;
+use std::rt::Runtime;
+use verify_run::{LogPart, RecordKind, Scope, run_verify};
+
+/// A check of the record on standard input: the file of its project, and what of the record is checked.
+#[derive(Debug, Drop)]
+pub struct VerifyCall {
+    project: String,
+    scope: Scope,
+}
+
+/// The command `verify` under a program's heading.
+pub fn verify_command<'a>(alloc: Global, heading: &'a str) -> Result<Command<'a>, AllocError> {
+    let about = "Check a record against a project in a file";
+    let partial = "Take a record of lemmas that is cut off, and print what its events prove";
+    let part = "Check part K of N of a record of lemmas, 1 to N";
+    let part = Arg::new(alloc, "part")
+        .long("part")
+        .value_name("K/N")
+        .help(part)
+        .action(ArgAction::Set);
+    project_subcommand(alloc, heading, "verify", about, help::VERIFY)?
+        .arg(flag(alloc, "partial", partial).conflicts_with("part")?)?
+        .arg(part)
+}
+
+/// The part that a word names, as `2/8`.
+fn part_of(word: &str) -> Option<LogPart> {
+    let (number, count) = word.split_once('/')?;
+    LogPart::new(number.parse().ok()?, count.parse().ok()?)
+}
+
+/// That a word names no part, as `clap` would say it.
+fn no_part(alloc: Global, word: &str) -> Result<ArgumentsFault, AllocError> {
+    let text = format!(in alloc;
+        "error: invalid value '{word}' for '--part <K/N>': K is not in 1..=N\n\nFor more information, try '--help'.\n"
+    )?;
+    Ok(ArgumentsFault::Bad { text })
+}
+
+/// What of a record is to be checked.
+fn scope_of(alloc: Global, matches: &ArgMatches<'_>) -> Result<Scope, ArgumentsFault> {
+    let Some(word) = file_name(alloc, matches, "part")? else {
+        return Ok(match matches.get_flag("partial") {
+            true => Scope::SoFar,
+            false => Scope::Whole,
+        });
+    };
+    match part_of(word.as_str()) {
+        Some(part) => Ok(Scope::Part(part)),
+        None => Err(no_part(alloc, word.as_str())?),
+    }
+}
+
+/// The check that the matches of `verify` ask for. None if the file isn't named, which `clap` doesn't let pass.
+pub fn verify_call(
+    alloc: Global,
+    matches: &ArgMatches<'_>,
+) -> Result<Option<VerifyCall>, ArgumentsFault> {
+    let Some(project) = file_name(alloc, matches, "project")? else {
+        return Ok(None);
+    };
+    let scope = scope_of(alloc, matches)?;
+    Ok(Some(VerifyCall { project, scope }))
+}
+
+/// Opens the project's file, and checks the record on standard input against it. A record whose title is that of neither
+/// kind is taken for one of the program's own.
+pub fn verify<R: Runtime>(
+    rt: &R,
+    program: &str,
+    alloc: Global,
+    own: RecordKind,
+    call: &VerifyCall,
+) -> ExitCode {
+    let mut second = match fs::open(rt, call.project.as_str()) {
+        Ok(file) => InputReader::new(file),
+        Err(error) if error.kind() == ErrorKind::OutOfMemory => {
+            return report(rt, program, &Ended::with(Fault::Memory));
+        }
+        Err(_) => return refuse_file(rt, program, Some(&call.project)),
+    };
+    let mut input = InputReader::new(rt.reader());
+    let mut out = OutputWriter::new(io::writer(rt));
+    let ended = run_verify(alloc, &call.scope, own, &mut input, &mut second, &mut out);
+    report(rt, program, &ended)
+}

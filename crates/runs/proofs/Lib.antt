@@ -1,4 +1,0 @@
-pub mod TextLaws
-pub mod CallLaws
-pub mod Pieces
-pub mod Telling

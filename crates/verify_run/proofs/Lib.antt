@@ -1,0 +1,3 @@
+pub mod TreeLaws
+pub mod Pieces
+pub mod Telling
