@@ -8,10 +8,10 @@ use std::sync::Wait;
 use std::test::Fail;
 use std::thread::Threads;
 
-mod devices;
+mod buffers;
 mod row;
 
-use devices::taking;
+use buffers::taking;
 use row::Row;
 
 /// Two activities of 3 and 4 periods that need the same machine.

@@ -4,20 +4,19 @@ ghost use Rattle.std.specs.Prelude.{◌<◌, IfOk, IfSome};
 ghost use Rattle.psmax_run.specs.Jobs.{IsJob};
 
 use crate::gates::HoldingGate;
-use crate::played::devices::{giving, taking};
+use crate::played::buffers::{giving, taking};
 use crate::played::text_of;
 use book::are_allowed;
 use devices::{Ended, Input, InputReader, Output, OutputWriter};
 use psmax_run::{Job, ONE_WORKER, SearchOptions, run, run_parallel};
 use std::alloc::Global;
-use std::str::FromStr;
 use std::sync::Wait;
 use std::test::Fail;
 use std::thread::Threads;
 use verify_run::{RecordKind, Scope, run_verify};
 
 /// The number behind an option in words, if it is there.
-fn number_after<T: FromStr>(line: &str, option: &str) -> Option<T> {
+fn number_after(line: &str, option: &str) -> Option<u64> {
     let (_, rest) = line.split_once(option)?;
     let word = rest.split_whitespace().next()?;
     word.parse().ok()
@@ -33,7 +32,7 @@ fn job_of(line: &str) -> Result<Option<Job>, Fail>
         Some("tidy") => return Ok(Some(Job::Tidy)),
         _ => {}
     }
-    let workers = number_after(line, "--workers");
+    let workers = number_after(line, "--workers").map(|count| count as usize);
     let nodes = number_after(line, "--nodes").unwrap_or(1_000_000);
     if !are_allowed(workers.unwrap_or(ONE_WORKER), nodes) {
         return Err("these words make no job".into());
