@@ -1,7 +1,11 @@
 -- The story of a run: what it reads of its inputs, what it replies, and what it writes to its outputs.
-use Rattle.std.specs.Prelude.{◌≡◌, ℕ, ◌+◌, ◌≤◌, ◌++◌, List, [], length, take, Option, Some, None, ◌⊎◌, true, false, IsSomeAnd, MatchOption}
+use Rattle.std.specs.Prelude.{◌≡◌, ℕ, ◌+◌, ◌≤◌, ◌++◌, List, [], length, take, Option, Some, None, ◌⊎◌, ◌≢◌, true, false, IsSomeAnd, IfNone, IfSome, MatchOption}
 use Rattle.std.specs.Io.KnownBytes.{Appends, Consumes, IsAtEnd}
 use Rattle.words.specs.declared.TheConstants.{MAX_TEXT_BYTES}
+use Rattle.devices.specs.declared.ended.Ended.{Ended}
+use Rattle.devices.specs.declared.fault.Fault.{Fault}
+use Rattle.devices.specs.declared.fault.Fault.TheVariants as faults
+use Rattle.devices.specs.Faults.{exit_of}
 use Rattle.devices.specs.Texts.{Inputs, SpellsNone}
 
 -- ---- What an input gave and an output took, and the failures that they count.
@@ -143,3 +147,25 @@ abbrev pub IsCutShort : {O D : Type 0} → ReplyOf → Span O → Span D → Typ
 IsCutShort reply out record_out =
     (TookFront out reply.text × IsUntouched record_out)
     ⊎ (TookAll out reply.text × IsSomeAnd reply.recorded (TookFront record_out))
+
+-- ---- how it ends
+
+-- no device stands here
+abbrev pub absent : Span (Unit {0})
+absent = span (λ device. None) (λ device. 0) tt tt
+
+-- A run ends with its reply written, or with a fault. The one who says what a run is says what it is that there is a reply of
+-- which something is done, what outputs hold where one failed and where there is no answer, and why there is no reply.
+pub record Ends {O D : Type 0}
+    (Replied : (ReplyOf → Type 0) → Type 0) (CutOff Unanswered : Type 0) (NoReply : Fault → Type 0)
+    (out : Span O) (record_out : Span D) (ended : Ended) : Type 0 where
+  -- no fault: the reply was written whole
+  pub replied : IfNone ended.fault (Replied (λ reply. (ended.exit ≡ reply.exit) × IsWritten reply out record_out))
+  -- an output failed
+  pub cut_off : ended.fault ≡ Some faults.WriteFailed → CutOff
+  -- any other fault: there is no reply, and no answer was written
+  pub refused : IfSome ended.fault NoReply
+  pub silent : IfSome ended.fault (λ fault. fault ≢ faults.WriteFailed → Unanswered)
+  pub status : IfSome ended.fault (λ fault. ended.exit ≡ exit_of fault)
+  -- an output failed exactly where this is told
+  pub failed : OneFailedWhere (ended.fault ≡ Some faults.WriteFailed) out record_out

@@ -2,7 +2,8 @@
 use Rattle.std.specs.Prelude.{◌≡◌, ℕ, List, Option, ◌≢◌, ◌↔◌, true, IsSome, IfSome}
 use Rattle.devices.specs.declared.fault.Fault.{Fault}
 use Rattle.devices.specs.Faults.{exit_of, IsSearchFault}
-use Rattle.devices.specs.Runs.{ReplyOf}
+use Rattle.devices.specs.declared.ended.Ended.{Ended}
+use Rattle.devices.specs.Runs.{Ends, IsCutShort, IsUntouched, ReplyOf, Span}
 use Rattle.devices.specs.Texts.{IfTextsKnown, IsSearched, SpellsOne}
 use Rattle.psmax_run.specs.Jobs.{answers_json, has_workers, reads_second, writes_record, IsAnswer, IsRefusal, Job}
 use Rattle.psmax_run.specs.Outcomes.{IsRightRecord}
@@ -29,3 +30,9 @@ pub record IsNoReply (job : Job) (first second : Option (List ℕ)) (fault : Fau
   pub of_text : exit_of fault ≢ 1 → IfTextsKnown (reads_second job) first second (λ text more. IsRefusal job text more fault)
   pub of_workers : IsSearchFault fault → has_workers job ≡ true
   pub of_search : IsSearchFault fault → IfTextsKnown (reads_second job) first second (IsSearched (reads_second job))
+
+-- how a run of the job ends, whose inputs tell this
+abbrev pub Runs : {O D : Type 0} → Job → Option (List ℕ) → Option (List ℕ) → Span O → Span D → Ended → Type 0
+Runs job first second out record_out ended =
+    Ends (Replies job first second) (Replies job first second (λ reply. IsCutShort reply out record_out))
+    (IsUntouched out × IsUntouched record_out) (IsNoReply job first second) out record_out ended

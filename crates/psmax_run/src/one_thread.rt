@@ -1,11 +1,10 @@
 //! A run over devices, in one thread.
 
-ghost use Rattle.std.specs.Prelude.{◌≡◌, ◌≢◌, ◌<◌, false, Some, Err, IfOk, IfErr, IfSome, IfNone};
-ghost use Rattle.devices.specs.declared.fault.Fault.{Fault};
+ghost use Rattle.std.specs.Prelude.{◌≡◌, ◌≢◌, ◌<◌, false, Some, Err, IfOk, IfErr};
 ghost use Rattle.devices.specs.declared.fault.Fault.TheVariants as faults;
 ghost use Rattle.devices.specs.Faults.{exit_of, IsInputFault};
-ghost use Rattle.devices.specs.Runs.{span, FailedWhere, TookAll, TookFront, HasRead};
-ghost use Rattle.psmax_run.specs.Runs.{IsNoReply, Replies};
+ghost use Rattle.devices.specs.Runs.{absent, span, HasRead};
+ghost use Rattle.psmax_run.specs.Runs.{Runs};
 ghost use Rattle.psmax_run.specs.Jobs.{IsJob, has_workers, inputs_of, reads_second, IsAnswer, IsRefusal};
 ghost use Rattle.devices.specs.Texts.{IfTextsKnown};
 
@@ -69,25 +68,9 @@ pub fn run<I: Input, S: Input, O: Output>(
     requires input { I.failed input.old < u64.MAX }
     requires second { S.failed second.old < u64.MAX }
     requires out { O.failed out.old < u64.MAX }
-
-    // No fault: the answer was written whole.
-    ensures replied { IfNone result.fault (Replies job (I.left input.old) (S.left second.old)
-        (λ reply. (result.exit ≡ reply.exit) × TookAll (span O.held O.failed out.old out.new) reply.text)) }
-
-    // The output failed: it holds a beginning of the answer.
-    ensures cut_short { result.fault ≡ Some faults.WriteFailed → Replies job (I.left input.old) (S.left second.old)
-        (λ reply. TookFront (span O.held O.failed out.old out.new) reply.text) }
-
-    // Any other fault: there is no answer, and nothing was written.
-    ensures refused { IfSome result.fault (IsNoReply job (I.left input.old) (S.left second.old)) }
-    ensures silent { IfSome result.fault (λ fault. fault ≢ faults.WriteFailed
-        → out.new ≡ out.old) }
-    ensures status { IfSome result.fault (λ fault. result.exit ≡ exit_of fault) }
-
-    // What was read, and the failures of devices.
+    ensures ends { Runs job (I.left input.old) (S.left second.old) (span O.held O.failed out.old out.new) absent result }
     ensures read { HasRead (inputs_of job) (result.fault ≡ Some faults.ReadFailed)
         (span I.left I.failed input.old input.new) (span S.left S.failed second.old second.new) }
-    ensures failed { FailedWhere (result.fault ≡ Some faults.WriteFailed) (span O.held O.failed out.old out.new) }
 {
     match job_answer(alloc, job, input, second) {
         Ok(answer) => write_answer(out, &answer),

@@ -1,11 +1,10 @@
 //! A run over devices in which workers search.
 
-ghost use Rattle.std.specs.Prelude.{◌≡◌, ◌≢◌, ◌<◌, true, Some, Err, IfOk, IfErr, IfSome, IfNone};
+ghost use Rattle.std.specs.Prelude.{◌≡◌, ◌≢◌, ◌<◌, true, Some, Err, IfOk, IfErr};
 ghost use Rattle.devices.specs.declared.fault.Fault.TheVariants as faults;
-ghost use Rattle.devices.specs.Faults.{exit_of};
 ghost use Rattle.psmax_run.specs.declared.job.Job.TheVariants as jobs;
-ghost use Rattle.devices.specs.Runs.{span, IsUntouched, OneFailedWhere, HasRead, IsCutShort, IsWritten};
-ghost use Rattle.psmax_run.specs.Runs.{IsNoReply, IsReply, RecordsWhereAsked, Replies};
+ghost use Rattle.devices.specs.Runs.{span, HasRead};
+ghost use Rattle.psmax_run.specs.Runs.{IsNoReply, IsReply, RecordsWhereAsked, Runs};
 ghost use Rattle.psmax_run.specs.Jobs.{IsJob, has_workers};
 ghost use Rattle.devices.specs.Texts.{search_inputs, IfTextsKnown};
 
@@ -67,28 +66,10 @@ pub fn run_parallel<I: Input, S: Input, O: Output, D: Output, G: Gate, R: Thread
     requires second { S.failed second.old < u64.MAX }
     requires out { O.failed out.old < u64.MAX }
     requires record_out { D.failed record_out.old < u64.MAX }
-
-    // No fault: the reply was written whole.
-    ensures replied { IfNone result.fault (Replies (jobs.Solve options) (I.left input.old) (S.left second.old)
-        (λ reply. (result.exit ≡ reply.exit) × IsWritten reply
-        (span O.held O.failed out.old out.new) (span D.held D.failed record_out.old record_out.new))) }
-
-    // An output failed: the outputs hold a beginning of the reply.
-    ensures cut_short { result.fault ≡ Some faults.WriteFailed → Replies (jobs.Solve options) (I.left input.old) (S.left second.old)
-        (λ reply. IsCutShort reply
-        (span O.held O.failed out.old out.new) (span D.held D.failed record_out.old record_out.new)) }
-
-    // Any other fault: there is no reply, and nothing was written.
-    ensures refused { IfSome result.fault (IsNoReply (jobs.Solve options) (I.left input.old) (S.left second.old)) }
-    ensures silent { IfSome result.fault (λ fault. fault ≢ faults.WriteFailed
-        → (out.new ≡ out.old) × (record_out.new ≡ record_out.old)) }
-    ensures status { IfSome result.fault (λ fault. result.exit ≡ exit_of fault) }
-
-    // What was read, and the failures of devices.
+    ensures ends { Runs (jobs.Solve options) (I.left input.old) (S.left second.old)
+        (span O.held O.failed out.old out.new) (span D.held D.failed record_out.old record_out.new) result }
     ensures read { HasRead (search_inputs options.start) (result.fault ≡ Some faults.ReadFailed)
         (span I.left I.failed input.old input.new) (span S.left S.failed second.old second.new) }
-    ensures failed { OneFailedWhere (result.fault ≡ Some faults.WriteFailed)
-        (span O.held O.failed out.old out.new) (span D.held D.failed record_out.old record_out.new) }
 {
     match searched_reply(rt, alloc, options, input, second, gate) {
         Ok(reply) => write_reply(out, record_out, &reply),
