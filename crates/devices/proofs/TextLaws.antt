@@ -1,7 +1,7 @@
 -- What was read of an input stands for all that it tells: a text within the limit is all of it, and a
 -- longer one is too long either way.
 use Rattle.std.proofs.Common.{◌≡◌, ◌≢◌, ℕ, ℤ, ◌+◌, ◌<◌, List, length, take, refl, sym, ap, subst, ◌∙◌, arith, inl, inr, ◌⊎◌, Some, ◌≤◌, [], ◌++◌, drop, Option}
-use Rattle.std.proofs.Common.{None, append-nil, length-take, take_all}
+use Rattle.std.proofs.Common.{Bool, true, false, None, append-nil, length-take, take_all}
 use Rattle.std.proofs.lemmas.Bool.{cases_order, lt-ltb}
 use Rattle.network.specs.Problem.{Problem, activity_count, IsProject}
 use Rattle.schedule_check.specs.declared.fault.StartsFault.TheVariants as starts
