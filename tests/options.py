@@ -4,7 +4,8 @@
 Looks at what each option of `psprove solve` does to a search that no contract tells: that a search answers at all, how many
 jobs there are and that each searches, that each limit ends a search, that a seed changes it, that the same words give the same
 log, and that lemmas may take what --memory says; that the figures are those of the search; that a search goes on from the
-starts that it is given, and that what it has found is told at a limit. The last line counts what was looked at."""
+starts that it is given or hears, and that what it has found is told at a limit. The last line counts what was looked
+at."""
 import json
 import pathlib
 import subprocess
@@ -127,9 +128,43 @@ def starts_are_gone_on_from(search: Search) -> Looked:
     yield "a search from it has it", after["makespan"] <= known["makespan"], (after["makespan"], known["makespan"])
 
 
+def standard_input_is_followed(search: Search) -> Looked:
+    """A schedule that is told there is taken, and its end ends the search."""
+    (search.folder / "project").write_bytes(search.text)
+    known = search.answer("--conflicts", 10 * CONFLICTS)
+    line = " ".join(str(start) for start in known["starts"]).encode() + b"\n"
+    words = [search.program, "solve", "--project", "project", "--follow", "--json", *PROGRESS]
+    with subprocess.Popen(words, stdin=subprocess.PIPE, stdout=subprocess.PIPE, stderr=subprocess.PIPE,
+                          cwd=search.folder) as run:
+        assert run.stdin is not None and run.stdout is not None and run.stderr is not None
+        run.stdin.write(line)
+        run.stdin.flush()
+        reports = map(json.loads, run.stderr)
+        found = next((report for report in reports if report.get("found") == "handed in"), {})
+        run.stdin.close()
+        for _ in reports:
+            pass
+        ended = json.loads(run.stdout.read())
+    yield "a schedule is taken", found.get("starts") == known["starts"], found
+    yield "the end of standard input ends it", (run.returncode, ended["status"]) == (3, "feasible"), ended["status"]
+    yield "its answer is no longer", ended["makespan"] <= known["makespan"], ended["makespan"]
+    status, _, faults = search.ended("--follow")
+    yield "the project is in a file", (status, b"--project" in faults) == (2, True), (status, faults)
+
+
+def a_file_ends_a_cube(search: Search) -> Looked:
+    (search.folder / "project").write_bytes(search.text)
+    (search.folder / "whole").write_bytes(b"")
+    words = ["--project", "project", "--under", "whole", "--record", "log", "--conflicts", CONFLICTS]
+    for file, wanted in ("none", CONFLICTS), ("whole", 0):
+        status, out, _ = search.ended(*words, "--until", file)
+        found = status, json.loads(out)["conflicts"]
+        yield f"a cube until there is {file}", found == (3, wanted), found
+
+
 LOOKS: Sequence[Callable[[Search], Looked]] = (
     searches_answer, each_job_searches, seeds_differ, limits_end, lemmas_fit_the_memory, what_is_found_is_told,
-    starts_are_gone_on_from,
+    starts_are_gone_on_from, standard_input_is_followed, a_file_ends_a_cube,
 )
 
 

@@ -111,7 +111,7 @@ def refused(log: bytes, project: bytes, event: int) -> Callable[[Trial], str | N
     def wrong(trial: Trial) -> str | None:
         (trial.folder / "bad.log").write_bytes(log)
         ended = harness.ended(trial.words("--resume", "bad.log"), project, cwd=trial.folder)
-        said = b"psprove: the log to resume: event %d is wrong\npsprove: search refused\n" % event
+        said = b"psprove: bad.log: event %d is wrong\n" % event
         return None if ended == (1, b"", said) else f"ends with {ended}"
     return wrong
 
