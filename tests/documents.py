@@ -12,7 +12,7 @@ that `./psmax` and `./psprove` start.
 - The version in the head of a manual page, that of the newest heading of CHANGELOG.md, that of CITATION.cff and that of
   the crates is the package's.
 - Help of psmax and of psprove has no name of a type.
-- The picture of docs/ARCHITECTURE.md has each crate of crates.txt.
+- The picture of docs/ARCHITECTURE.md has each crate of crates.txt, and so has its table.
 - Each command of a document of SHOWN is run as a user runs it, and prints what stands below it.
 
 A command to run stands after `$ ` in a ```console block, in a manual page between .EX and .EE; further lines of it
@@ -32,6 +32,7 @@ import sys
 from collections.abc import Iterable, Iterator, Sequence
 
 import harness
+import workspace
 from harness import TOP, Verdict, Verdicts
 from psmax import __version__
 
@@ -189,6 +190,7 @@ def of_crates() -> Verdicts:
     _, picture = FENCE.findall(document.read_text())[0]
     for crate in re.findall(r"^\w+", (TOP / "crates.txt").read_text(), re.M):
         yield verdict(document, re.search(rf"\b{crate}\b", picture), f"the picture has no {crate}")
+    yield verdict(document, workspace.table() in document.read_text(), f"the table of crates is not\n{workspace.table()}")
 
 
 def commands_in(line: str) -> list[list[str]]:

@@ -13,6 +13,7 @@ from collections import defaultdict
 from collections.abc import Iterable, Iterator, Sequence
 
 import harness
+import workspace
 from harness import TOP
 
 TYPE = re.compile(r"^(?:pub(?:\(\w+\))? )?(?:struct|enum|trait|type) (\w+)", re.M)
@@ -91,6 +92,8 @@ def rows() -> Iterator[Row]:
     modules = {path: lines for path, lines in files.items() if path.parts[:2] == ("python", "psmax")}
     yield named("type names in two or more crates", names_twice(crates))
     yield "crates", len(crates), []
+    yield named("frames from main of psprove to the loop of its engine", workspace.frames())
+    yield "crates that a change of branching has proved again", len(workspace.proved_again("branching")), []
     small = sorted((len(lines), crate) for crate, lines in crates.items() if len(lines) < SMALLEST_CRATE)
     yield named(f"crates below {SMALLEST_CRATE} lines", [f"{crate} {size}" for size, crate in small])
     yield "Python modules", len(modules), []

@@ -3,7 +3,7 @@
 use crate::failure::Failure;
 use crate::files::bytes_of;
 use crate::following::Heard;
-use crate::json::cube_line;
+use crate::json_lines::cube_line;
 use crate::program::Program;
 use crate::record_file::RecordFile;
 use crate::reports::{ReportForm, Reporter};

@@ -8,7 +8,7 @@ mod failure;
 mod files;
 mod following;
 mod help;
-mod json;
+mod json_lines;
 mod program;
 mod record_file;
 mod reports;
