@@ -3,6 +3,8 @@ import datetime
 from bisect import bisect_left
 from collections.abc import Sequence
 
+from .date_style import DateStyle, weekday
+
 MINUTES = {"minutes": 1, "hours": 60, "days": 24 * 60, "weeks": 7 * 24 * 60}  # of each kind of period
 DAY = datetime.timedelta(days=1)
 MOST_DAYS = 4_000_000  # more than there are until the year 9999
@@ -13,6 +15,8 @@ class Calendar:
     """What times are called. They may be asked for from before the first one to long after the last."""
 
     heads: tuple[str, str]
+    is_by_day = False  # whether a period has no hours
+    style = DateStyle()
 
     def begins(self, time: int) -> datetime.datetime:
         """When the period that begins at this time begins."""
@@ -30,10 +34,25 @@ class Calendar:
         """The last time at which all has ended by the moment; below 0 for one before the project."""
         raise NotImplementedError
 
-    def times(self, begins: int, ends: int, is_morning: bool = False) -> tuple[str, str]:
+    def span(self, begins: int, ends: int, is_morning: bool = False) -> tuple[datetime.datetime, datetime.datetime]:
         """The first and the last day of work, or the moments. What takes no time stands at the end of the work before it, or
         where the next begins."""
         raise NotImplementedError
+
+    def times(self, begins: int, ends: int, is_morning: bool = False) -> tuple[str, str]:
+        """The same as dates are written here."""
+        first, last = self.span(begins, ends, is_morning)
+        return self.told(first), self.told(last)
+
+    def told(self, at: datetime.datetime) -> str:
+        return self.style.day(at) if self.is_by_day else self.style.moment(at)
+
+    def brief(self, at: datetime.datetime) -> str:
+        """A day or a moment of `span` with its day of the week."""
+        return self.brief_day(at) + ("" if self.is_by_day else f" {at:%H:%M}")
+
+    def brief_day(self, at: datetime.datetime) -> str:
+        return f"{weekday(at)} {self.style.short(at)}"
 
     def mark(self, time: int) -> str:
         """A period in few letters."""
@@ -54,6 +73,7 @@ class Days(Calendar):
     """Periods of a working day each, or of so many."""
 
     heads = ("first day", "last day")
+    is_by_day = True
 
     def __init__(self, first: datetime.date, step: int, workdays: frozenset[int],
                  holidays: frozenset[datetime.date]) -> None:
@@ -99,14 +119,14 @@ class Days(Calendar):
     def by(self, moment: datetime.datetime) -> int:
         return -1 if moment.date() < self.days[0] else self.place(moment.date()) // self.step
 
-    def times(self, begins: int, ends: int, is_morning: bool = False) -> tuple[str, str]:
+    def span(self, begins: int, ends: int, is_morning: bool = False) -> tuple[datetime.datetime, datetime.datetime]:
         last = self.day(self.step * ends - 1) if ends > 0 and not (is_morning and begins == ends) else \
             self.day(self.step * ends)
         first = self.day(self.step * begins) if ends > begins else last
-        return first.isoformat(), last.isoformat()
+        return at_midnight(first), at_midnight(last)
 
     def mark(self, time: int) -> str:
-        return self.day(self.step * time).strftime("%m-%d")
+        return self.style.mark(self.day(self.step * time))
 
     def without_holidays(self) -> Calendar:
         return Days(self.first, self.step, self.workdays, frozenset())
@@ -143,8 +163,8 @@ class Moments(Calendar):
     def by(self, moment: datetime.datetime) -> int:
         return max(-1, (self.absolute(moment) - self.first) // self.length)
 
-    def times(self, begins: int, ends: int, is_morning: bool = False) -> tuple[str, str]:
-        return self.begins(begins).isoformat(" ", "minutes"), self.begins(ends).isoformat(" ", "minutes")
+    def span(self, begins: int, ends: int, is_morning: bool = False) -> tuple[datetime.datetime, datetime.datetime]:
+        return self.begins(begins), self.begins(ends)
 
     def mark(self, time: int) -> str:
         return self.begins(time).strftime("%d %H:%M")
@@ -185,10 +205,9 @@ class Shifts(Calendar):
         today = bisect_left(self.slots, of_day - minutes) if is_workday else 0
         return place * len(self.slots) + today - self.skipped
 
-    def times(self, begins: int, ends: int, is_morning: bool = False) -> tuple[str, str]:
+    def span(self, begins: int, ends: int, is_morning: bool = False) -> tuple[datetime.datetime, datetime.datetime]:
         last = self.begins(ends) if ends <= 0 or is_morning and begins == ends else self.ended(ends)
-        first = self.begins(begins) if ends > begins else last
-        return first.isoformat(" ", "minutes"), last.isoformat(" ", "minutes")
+        return self.begins(begins) if ends > begins else last, last
 
     def mark(self, time: int) -> str:
         return self.begins(time).strftime("%d %H:%M")

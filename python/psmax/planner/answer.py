@@ -139,12 +139,11 @@ def time(opened: ProjectFile, activity: int, begin: Begin, given: AnswerText) ->
         moment = read_moment(begin.date, opened.settings.dates)
     except ValueError as fault:
         raise BadInput(f"{begin.place}: '{short(begin.date)}': {fault}") from None
-    told = moment.at.isoformat(" ", "minutes")
     times = [begin.period] if begin.period is not None else [opened.calendar.from_on(moment.at),
                                                              opened.calendar.by(moment.next())]
     for place in times:
-        said = opened.times(activity, place)[0]
-        if said == told or (said[:10] == told[:10] and (moment.is_day or (len(said) == 10 and told.endswith("00:00")))):
+        said = opened.span(activity, place)[0]
+        if said == moment.at or (moment.is_day and said.date() == moment.at.date()):
             return place
     if begin.period is None:
         raise BadInput(f"{begin.place}: no period of work begins at {short(begin.date)}")

@@ -35,25 +35,21 @@ def wanted(opened: ProjectFile, resource: str | None) -> list[int]:
 
 def event(opened: ProjectFile, activity: int, start: int, now: datetime.datetime) -> Iterator[str]:
     project, names = opened.project, opened.names
-    begins, ends = opened.times(activity, start)
+    begins, ends = opened.span(activity, start)
     needs = [f"{units} {names.resource(k)}" for k, units in enumerate(project.demands[activity]) if units]
     yield "BEGIN:VEVENT"
     yield f"UID:{activity}-{short(names.activities.get(activity, '')).encode().hex()}@psmax"
     yield f"DTSTAMP:{now:%Y%m%dT%H%M%SZ}"
-    if len(begins) == len("2026-03-02"):
-        yield f"DTSTART;VALUE=DATE:{day(begins):%Y%m%d}"
-        yield f"DTEND;VALUE=DATE:{day(ends) + DAY:%Y%m%d}"
+    if opened.calendar is not None and opened.calendar.is_by_day:
+        yield f"DTSTART;VALUE=DATE:{begins:%Y%m%d}"
+        yield f"DTEND;VALUE=DATE:{ends + DAY:%Y%m%d}"
     else:
-        yield f"DTSTART:{datetime.datetime.fromisoformat(begins):%Y%m%dT%H%M%S}"
-        yield f"DTEND:{datetime.datetime.fromisoformat(ends):%Y%m%dT%H%M%S}"
+        yield f"DTSTART:{begins:%Y%m%dT%H%M%S}"
+        yield f"DTEND:{ends:%Y%m%dT%H%M%S}"
     yield f"SUMMARY:{escaped(names.activities.get(activity, '') or f'activity {activity}')}"
     if needs:
         yield f"DESCRIPTION:{escaped(', '.join(needs))}"
     yield "END:VEVENT"
-
-
-def day(text: str) -> datetime.date:
-    return datetime.date.fromisoformat(text)
 
 
 def escaped(text: str) -> str:

@@ -387,8 +387,10 @@ floats, which prints on paper.""", "site.csv plan.csv --record plan.rec --out si
     ("watch", add_watch, "show the plan in a browser, and plan again whenever the table is saved",
      """Follows a table. Prints the address of a page on this machine, which shows the plan,
 what moved, and what is wrong with the table. Ctrl-C ends it, and keeps the plan.""", "site.csv --open"),
-    ("check", add_check, "check a schedule, and list its violations",
-     "Reads a project and an answer. Prints 'feasible C', or each violation by name.", "site.csv plan.csv"),
+    ("check", add_check, "check a schedule, and list its violations, or say what was read of a table",
+     """Reads a project and an answer. Prints 'feasible C', or each violation by name. Of a
+table without an answer it prints what it has read: settings with their rows, the first
+three weeks, absences.""", "site.csv plan.csv"),
     ("why", add_why, "explain why a project has no schedule",
      """Reads a project. Prints a smallest set of maximum lags, resources and absences
 that are impossible together, and which maximum lag would open a schedule.""", "site.csv --within 30"),

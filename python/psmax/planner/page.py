@@ -17,11 +17,12 @@ from . import drawing
 from .chart import LOAD, ROW, RULER, STYLE, Chart, definitions, mark, markup
 from .drawing import Bar, Drawing
 from .project_file import ProjectFile
+from .read_back import first_line
 from .window import Window
 from .wording import Words
 
 FOLDER = pathlib.Path(__file__).parent
-PLACES = ("made", "facts", "proof", "definitions", "ruler", "arrows", "heads", "total", "lines", "rows", "uses")
+PLACES = ("made", "read", "facts", "proof", "definitions", "ruler", "arrows", "heads", "total", "lines", "rows", "uses")
 WIDTH = {"A4": 760, "A3": 1230}  # pixels of the time, so that it fits the paper on its side beside the names
 WIDEST = 36  # pixels of a period at most
 Rows = list[tuple[str, str]]  # rows of a table, each with what it is known by
@@ -63,7 +64,8 @@ class Page:
         arrows = chart.circle(self.view.circle, self.words) if not self.view.is_plan else chart.arrows(
             self.project.arcs, starts, self.words)
         return {
-            "made": escape(self.made()), "facts": markup(*self.facts()), "proof": markup(*in_code(self.view.proof)),
+            "made": escape(self.made()), "read": escape(" ".join(first_line(self.opened))),
+            "facts": markup(*self.facts()), "proof": markup(*in_code(self.view.proof)),
             "definitions": markup(definitions(), grid), "ruler": markup(picture(chart.width, RULER, chart.ruler())),
             "arrows": markup(picture(chart.width, chart.height, arrows)), "heads": markup(*self.heads()),
             "total": escape(self.said_of_total()),

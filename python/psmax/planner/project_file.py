@@ -58,10 +58,16 @@ class ProjectFile:
 
     def times(self, activity: int, begins: int) -> tuple[str, str]:
         """When an activity begins and ends, where it begins at this time: as dates, or else as lengths from the start."""
-        ends = begins + self.project.durations[activity]
         if self.calendar is None:
-            return self.after(begins), self.after(ends)
-        return self.calendar.times(begins, ends, begins in self.mornings.get(activity, ()))
+            return self.after(begins), self.after(begins + self.project.durations[activity])
+        first, last = self.span(activity, begins)
+        return self.calendar.told(first), self.calendar.told(last)
+
+    def span(self, activity: int, begins: int) -> tuple[datetime.datetime, datetime.datetime]:
+        """The same as the first and the last day, or as moments; only where there is a calendar."""
+        assert self.calendar is not None
+        ends = begins + self.project.durations[activity]
+        return self.calendar.span(begins, ends, begins in self.mornings.get(activity, ()))
 
     def length(self, periods: int) -> str:
         """So many periods as the table writes lengths; their number where a period is what its column names."""

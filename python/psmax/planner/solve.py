@@ -20,6 +20,7 @@ from .answer_file import AnswerFile, activities_of
 from .beginning import Start, begin_with
 from .lags import CalendarLag, periods
 from .project_file import ProjectFile
+from .read_back import first_line
 from .verify import RECORD
 
 SECONDS = 10  # at most, of one more run
@@ -51,7 +52,7 @@ def solve(opened: ProjectFile, start: Start, options: Options) -> int:
         schedules.append((there.starts, kept.path))
     clock = Clock(options.seconds)
     clock.listen()
-    for line in [*opened.notes, *beginning.told]:
+    for line in [*first_line(opened), *opened.notes, *beginning.told]:
         tell(clock, line)
     known = Incumbent(clock, beginning.project)
     if kept is not None:

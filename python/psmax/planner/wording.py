@@ -28,6 +28,13 @@ class Words:
         calendar = self.opened.calendar
         return calendar.times(time - 1, time)[1] if calendar is not None else self.opened.after(time)
 
+    def brief(self, time: int, is_end: bool = False) -> str:
+        """A time with its day of the week: where something begins, or by when it has ended."""
+        calendar = self.opened.calendar
+        if calendar is None:
+            return self.opened.after(time)
+        return calendar.brief(calendar.span(time - 1, time)[1] if is_end else calendar.span(time, time + 1)[0])
+
     def many(self, periods: int) -> str:
         """So many periods, by their own name."""
         if not self.opened.is_own():
@@ -89,11 +96,15 @@ class Words:
 
     def absence(self, one: Absence) -> str:
         """What is away, and when."""
-        name, all_of_it = self.names.resource(one.resource), one.units == self.project.capacities[one.resource]
-        what = f"{name} away" if all_of_it else f"{one.units} of {name} away"
+        what = f"{self.away(one)} away"
         if one.ends is None:
             return f"{what} from {self.time(one.begins)} on"
         return f"{what} from {self.time(one.begins)} to {self.by(one.ends)}"
+
+    def away(self, one: Absence) -> str:
+        """The resource of an absence, or so many units of it."""
+        name = self.names.resource(one.resource)
+        return name if one.units == self.project.capacities[one.resource] else f"{one.units} of {name}"
 
     def needs(self, activity: int) -> str:
         """What this activity needs more of than there is."""
