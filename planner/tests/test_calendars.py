@@ -5,7 +5,7 @@ import random
 import unittest
 
 from psmax.calendars import Calendar, Days, Shifts
-from psmax.planner.lags import everywhere
+from psmax.dated import everywhere
 
 MINUTE, DAY = datetime.timedelta(minutes=1), datetime.timedelta(days=1)
 SHIFTS = (((480, 960),), ((420, 720), (780, 960)), ((0, 360), (1320, 1440)), ((0, 1440),))
@@ -59,7 +59,8 @@ class Calendars(unittest.TestCase):
         for seed in range(0, 40):
             calendar = Chance(seed, seed % 2 == 0).calendar
             days, from_end, is_least = 1 + seed % 5, seed % 3 != 0, seed % 4 < 2
-            periods, _ = everywhere(calendar, days, from_end, is_least)
+            least, most = everywhere(calendar, days, from_end, is_least)
+            periods = most if is_least else least
             for time in range(1, 45):
                 begin = calendar.ended(time) if from_end else calendar.begins(time)
                 start = calendar.begins(time + periods)

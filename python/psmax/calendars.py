@@ -2,11 +2,14 @@
 import datetime
 from bisect import bisect_left
 from collections.abc import Sequence
+from math import gcd
 
 from .date_style import DateStyle, weekday
 
 MINUTES = {"minutes": 1, "hours": 60, "days": 24 * 60, "weeks": 7 * 24 * 60}  # of each kind of period
 DAY = datetime.timedelta(days=1)
+MINUTE, ZERO = datetime.timedelta(minutes=1), datetime.timedelta(0)
+YEARS = 10  # that are looked at for changes of clocks
 MOST_DAYS = 4_000_000  # more than there are until the year 9999
 BEYOND = "the schedule goes beyond the years 1 to 9999"  # told where a date overflows
 
@@ -67,6 +70,28 @@ class Calendar:
 
     def holidays_of(self) -> list[datetime.datetime]:
         return []
+
+    def changes(self) -> int:
+        """By how many periods days can differ where clocks change."""
+        return 0
+
+    def round_or_none(self) -> int | None:
+        """The same as `round`, where that holds for ever."""
+        return self.round() if not self.changes() else None
+
+    def quiet(self) -> int:
+        """The time from which on there are no holidays."""
+        return max([0, *(self.from_on(day + DAY) for day in self.holidays_of())])
+
+    def key(self) -> tuple[object, ...]:
+        """What it is made of: calendars of the same are the same."""
+        raise NotImplementedError
+
+    def __eq__(self, other: object) -> bool:
+        return isinstance(other, Calendar) and type(self) is type(other) and self.key() == other.key()
+
+    def __hash__(self) -> int:
+        return hash(self.key())
 
 
 class Days(Calendar):
@@ -137,6 +162,9 @@ class Days(Calendar):
     def holidays_of(self) -> list[datetime.datetime]:
         return [at_midnight(day) for day in sorted(self.holidays)]
 
+    def key(self) -> tuple[object, ...]:
+        return self.first, self.step, self.workdays, self.holidays
+
 
 class Moments(Calendar):
     """Periods of so many minutes, around the clock. In a time zone a day on which clocks change has an hour less or more."""
@@ -168,6 +196,17 @@ class Moments(Calendar):
 
     def mark(self, time: int) -> str:
         return self.begins(time).strftime("%d %H:%M")
+
+    def round(self) -> int:
+        """A day, in whole periods; where these don't divide it, as many as a number of days has."""
+        return int(DAY / MINUTE) // gcd(int(DAY / MINUTE), int(self.length / MINUTE))
+
+    def changes(self) -> int:
+        days = [(self.first + day * DAY).astimezone(self.zone).utcoffset() or ZERO for day in range(YEARS * 366)]
+        return -((min(days) - max(days)) // self.length)
+
+    def key(self) -> tuple[object, ...]:
+        return self.first, self.length, self.zone
 
 
 class Shifts(Calendar):
@@ -221,6 +260,9 @@ class Shifts(Calendar):
 
     def holidays_of(self) -> list[datetime.datetime]:
         return self.days.holidays_of()
+
+    def key(self) -> tuple[object, ...]:
+        return self.first, self.minutes, self.days, tuple(self.shift)
 
 
 def at_midnight(day: datetime.date) -> datetime.datetime:

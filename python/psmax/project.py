@@ -3,7 +3,10 @@ from collections.abc import Collection, Mapping, Sequence
 from dataclasses import dataclass, field, replace
 from enum import Enum
 from itertools import combinations
-from typing import NamedTuple
+from typing import TYPE_CHECKING, NamedTuple
+
+if TYPE_CHECKING:
+    from .dated import DatedLag
 
 MOST_ACTIVITIES = 1_000
 MOST_RESOURCES = 32
@@ -64,6 +67,7 @@ class Project:
     absences: tuple[Absence, ...] = ()
     due: Mapping[int, int] = field(default_factory=dict)  # when activities should have ended
     goal: Goal = Goal.MAKESPAN
+    dated: tuple["DatedLag", ...] = ()  # what some of the arcs, which every date allows, are on each date
 
     @property
     def end(self) -> int:
@@ -86,6 +90,11 @@ class Project:
     def rules(self) -> list[Arc]:
         """The given arcs, and those that every project has: each activity after the start and before the end."""
         return [*self.arcs, *(Arc(0, i, 0) for i in range(1, self.end)), *self.goal_arcs()]
+
+    def slack(self, arc: Arc, starts: Sequence[int]) -> int:
+        """By how much starts keep a lag; below 0 where they do not."""
+        dated = next((one for one in self.dated if one.arc == arc), None)
+        return starts[arc.head] - starts[arc.tail] - arc.lag if dated is None else dated.slack(starts)
 
     def users(self, resource: int, starts: Sequence[int], time: int) -> list[int]:
         """The activities that use a resource at a time."""
@@ -140,14 +149,19 @@ def without(project: Project, gone: Collection[Part]) -> Project:
     absences = tuple(one._replace(resource=kept.index(one.resource)) for place, one in enumerate(project.absences)
                      if one.resource in kept and Part(Kind.ABSENCE, place) not in gone)
     capacities = tuple(project.capacities[k] for k in kept)
-    return replace(project, demands=demands, capacities=capacities, arcs=arcs, absences=absences)
+    return replace(with_arcs(project, arcs), demands=demands, capacities=capacities, absences=absences)
 
 
 def with_lag(project: Project, place: int, lag: int) -> Project:
     """The project with another lag for one of its arcs."""
     arcs = [*project.arcs]
     arcs[place] = arcs[place]._replace(lag=lag)
-    return replace(project, arcs=tuple(arcs))
+    return with_arcs(project, tuple(arcs))
+
+
+def with_arcs(project: Project, arcs: tuple[Arc, ...]) -> Project:
+    """The project with other arcs, in which what is no arc any more has no dates either."""
+    return replace(project, arcs=arcs, dated=tuple(one for one in project.dated if one.arc in arcs))
 
 
 def too_needy(project: Project) -> list[int]:

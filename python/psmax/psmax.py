@@ -9,7 +9,7 @@ from typing import NamedTuple
 from .errors import Failed
 from .outcome import ODD, Solved, of_answer
 from .programs import Program
-from .project import Goal, Project
+from .project import Arc, Goal, Project
 from .project_text import ProjectText
 
 
@@ -22,7 +22,8 @@ class Checked:
 
 
 class Violation(NamedTuple):
-    """A start of activity 0 that isn't 0; a lag that isn't kept, as its arc; or an overload: a time, a resource, a use."""
+    """A start of activity 0 that isn't 0; a lag that isn't kept, as its arc; one in calendar days, by its place; or an
+    overload: a time, a resource, a use."""
 
     kind: str
     numbers: tuple[int, ...]
@@ -68,7 +69,14 @@ class Psmax(Program):
                 raise self.odd("solve") from None
 
     def check(self, project: Project, starts: tuple[int, ...]) -> Checked:
-        """What psmax says of the starts. Whatever is minimized, a schedule is feasible by its lags and resources."""
+        """What psmax says of the starts. Whatever is minimized, a schedule is feasible by its lags and resources. Lags in
+        calendar days are kept or not by their dates."""
+        if project.dated:
+            known = self.check(replace(project, dated=()), starts)
+            late = [Violation("dated", (place,)) for place, one in enumerate(project.dated) if one.slack(starts) < 0]
+            arcs = {project.dated[one.numbers[0]].arc for one in late}
+            rest = [one for one in known.violations if one.kind != "lag" or Arc(*one.numbers) not in arcs]
+            return Checked(None, (*rest, *late)) if late else known
         if project.goal is Goal.LATENESS:
             known = self.check(replace(project, goal=Goal.MAKESPAN), project.plain(starts))
             return known if known.value is None else Checked(starts[-1], ())

@@ -3,15 +3,17 @@ import math
 import os
 import tempfile
 from collections.abc import Callable
-from dataclasses import dataclass
+from dataclasses import dataclass, replace
 
+from .case_record import record_of
+from .cases import CaseSearch
 from .clock import tell
 from .errors import TimeUp
 from .outcome import ODD, Solved, not_asked, of_answer, of_report
 from .programs import Program
 from .project import Project
 from .project_text import ProjectText
-from .psmax import starts_text
+from .psmax import Psmax, starts_text
 
 Hear = Callable[[Solved], object]
 
@@ -30,6 +32,9 @@ class Limits:
         told = {"--seconds": math.ceil(self.seconds), "--jobs": self.jobs, "--conflicts": self.conflicts}
         return [word for option, value in told.items() if value is not None for word in (option, f"{value}")]
 
+    def are_over(self) -> bool:
+        return self.seconds <= 0 or self.conflicts == 0
+
 
 class Psprove(Program):
     name = "psprove"
@@ -37,7 +42,23 @@ class Psprove(Program):
     def solve(self, project: Project, limits: Limits, start: tuple[int, ...] | None = None,
               hear: Hear = lambda told: None) -> Solved:
         """A search within limits, from starts that are feasible where there are some. Meanwhile what psprove's book holds is
-        heard. Where the clock stops, the answer is what it holds then."""
+        heard. Where the clock stops, the answer is what it holds then. Lags in calendar days are searched by cases."""
+        if not project.dated:
+            return self.search(project, limits, start, hear)
+        begun = self.clock.elapsed()
+
+        def left(conflicts: int) -> Limits:
+            seconds = limits.seconds - (self.clock.elapsed() - begun)
+            return Limits(min(seconds, self.clock.left()), limits.jobs,
+                          None if limits.conflicts is None else max(0, limits.conflicts - conflicts))
+
+        psmax = Psmax(self.clock, self.project)
+        found = CaseSearch(project, self.search, lambda starts: psmax.check(project, starts).value, hear)
+        answer = found.run(left, start)
+        return replace(answer, record=record_of(found.root, found.starts))
+
+    def search(self, project: Project, limits: Limits, start: tuple[int, ...] | None, hear: Hear) -> Solved:
+        """The same of an ordinary project."""
         if limits.seconds <= 0:
             raise TimeUp
         spelled = ProjectText(project)

@@ -1,11 +1,15 @@
 """Records of searches, which `verify` of the programs judges."""
+import math
 import re
 from dataclasses import dataclass
 
+from .case_record import read_cases
 from .clock import Clock
 from .errors import BadInput, Failed
 from .files import write_whole
+from .outcome import ODD
 from .programs import Program
+from .project import Project
 from .project_text import ProjectText
 from .psmax import Psmax
 from .psprove import Psprove
@@ -59,3 +63,46 @@ class Record:
 
     def write(self, path: str) -> None:
         write_whole(path, self.data)
+
+    def cases(self) -> int:
+        """How many records of cases it has; 0 for one of a project without lags in calendar days."""
+        return 0
+
+
+class CaseRecord(Record):
+    """The record of a project with lags in calendar days, which has one of each case."""
+
+    def judge(self, called: str = "the record") -> Program:
+        return Psprove(Clock(), called)
+
+    def told(self, program: Program) -> tuple[str, bool]:
+        project = self.spelled.project
+        try:
+            leaves, starts = read_cases(self.data, project)
+        except (*ODD, RecursionError, OverflowError):
+            return "cases: form", True
+        least = math.inf
+        for number, leaf in enumerate(leaves, 1):
+            record = Record(leaf.record, ProjectText(leaf.ordinary(project)))
+            told, is_wrong = record.told(program)
+            if is_wrong:
+                return f"case {number} of {len(leaves)}: {told}", True
+            least = min(least, leaf.bound(record.bound(told)))
+        value = None if starts is None else Psmax(Clock(), program.project).check(project, starts).value
+        if starts is not None and (value is None or value < least):
+            return "cases: schedule", True
+        if least == math.inf:
+            return "proved no schedule", False
+        return f"proved {'optimal' if value == least else 'bound'} {int(least)}", False
+
+    def bound(self, told: str) -> int | None:
+        found = re.fullmatch(r"proved (?:bound|optimal) (-?\d+)", told)
+        return int(found[1]) if found else None
+
+    def cases(self) -> int:
+        return len(read_cases(self.data, self.spelled.project)[0])
+
+
+def record_in(data: bytes, project: Project) -> Record:
+    """What stands in a file, as a record of this project."""
+    return (CaseRecord if project.dated else Record)(data, ProjectText(project))

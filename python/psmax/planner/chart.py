@@ -122,7 +122,7 @@ class Chart:
 
     def arrows(self, arcs: Sequence[Arc], starts: Sequence[int], words: Words) -> list[Element]:
         """Of each lag between two activities."""
-        return [self.arrow(arc, words, "" if starts[arc.head] - starts[arc.tail] - arc.lag else " tight") for arc in arcs
+        return [self.arrow(arc, words, "" if words.project.slack(arc, starts) else " tight") for arc in arcs
                 if {arc.tail, arc.head} <= self.bars.keys()]
 
     def circle(self, arcs: Sequence[Arc], words: Words) -> list[Element]:

@@ -9,7 +9,7 @@ from ..clock import Clock, tell
 from ..cubes.driver import TRIES, Driver
 from ..cubes.machines import Cluster, Machines, Processes
 from ..cubes.tree import WHOLE, Driven
-from ..errors import Failed, TimeUp
+from ..errors import BadInput, Failed, TimeUp
 from ..incumbent import Incumbent
 from ..outcome import Solved
 from ..programs import find_program
@@ -35,6 +35,8 @@ class Places:
 
 def search(beginning: Beginning, known: Incumbent, places: Places) -> None:
     """Runs until everything is known or the time is over. Cubes whose logs are wrong are searched again."""
+    if beginning.project.dated:
+        raise BadInput("a search in cubes has no cases, which lags in calendar days need; search without a folder")
     spelled, record = ProjectText(beginning.project), place_of(places.folder, places.record)
     with closing(Driven(pathlib.Path(places.folder), spelled.text)) as tree:
         driver, wrong = Driver(tree, known, spelled), Counter[str]()

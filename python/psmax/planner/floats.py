@@ -14,7 +14,7 @@ from .answer import Answer, feasible
 from .answer_text import read_answer
 from .beginning import Beginning, Start, begin_with
 from .gantt import Chart
-from .project_file import ProjectFile
+from .project_file import ProjectFile, must_be_ordinary
 from .window import Window, windows
 from .write import Sheet, rows
 
@@ -80,6 +80,7 @@ def floats(opened: ProjectFile, given: str | None, sheet: Sheet, chart: Chart, w
     guard([sheet.out if wanted is None else None, chart.svg], inputs)
     chart.must_fit()
     must_be_empty(sheet.out if wanted is not None else None)
+    must_be_ordinary(opened, sheet.out if wanted is not None else None)
     psmax = Psmax(Clock(), opened.path)
     known = feasible(opened, read_answer(given), psmax)
     found = windows(opened.project, known.starts, psmax)

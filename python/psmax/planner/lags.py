@@ -1,12 +1,11 @@
 """The lags of a table: what its columns `after`, `at least`, `at most` and `predecessors` say, as arcs from start to
 start."""
-import datetime
 import difflib
 import re
 from collections.abc import Collection, Sequence
 from dataclasses import dataclass, field
 
-from ..calendars import Calendar
+from ..dated import DatedLag, everywhere
 from ..dates import is_dated
 from ..letters import short
 from ..project import MOST_UNITS, Arc
@@ -24,50 +23,6 @@ GERMAN = {"EA": "FS", "AA": "SS", "EE": "FF", "AE": "SF"}
 LINK = re.compile(r"(.*?)\s*(?:(FS|SS|FF|SF|EA|AA|EE|AE)\s*([-+].*)?)?", re.I)
 DECIMAL = re.compile(rf"([-+]\s*\d+),(\d+\s*(?:{'|'.join(WORDS)})\b)", re.I)  # between predecessors a comma separates
 EITHER = re.compile(r"[-+]\s*\d+,\d+\s*(?:,|$)")
-DAY = datetime.timedelta(days=1)
-
-
-@dataclass(frozen=True)
-class CalendarLag:
-    """So many calendar days from the end or the start of one activity to the start of another, at least or at most, for
-    what goes on over days off. They become the periods that keep them wherever they begin."""
-
-    place: int  # of its arc in the project
-    days: int
-    from_end: bool
-    is_least: bool
-    periods: int  # that keep it wherever it begins
-    best: int  # the periods where it begins on the best of days
-    row: int  # of the table
-
-    def text(self, name: str, other: str) -> str:
-        """What is said of it."""
-        most = "at least" if self.is_least else "at most"
-        spared = abs(self.periods - self.best)
-        text = f"row {self.row}: '{name}' starts {most} {self.days} calendar days after '{other}': {self.periods} periods of "
-        text += "work keep that from any day on" if self.is_least else "work keep that on any day"
-        return text + (f", and on some days {self.best} would do, so it may cost {spared}" if spared else "")
-
-
-def periods(calendar: Calendar, days: int, from_end: bool, is_least: bool, time: int) -> int:
-    """How many periods the lag is where it begins at this time."""
-    begin = calendar.ended(time) if from_end and time > 0 else calendar.begins(time)
-    moment = begin + days * DAY
-    first = calendar.from_on(moment)
-    if not is_least and calendar.begins(first) > moment:
-        first -= 1
-    return first - time
-
-
-def everywhere(calendar: Calendar, days: int, from_end: bool, is_least: bool) -> tuple[int, int]:
-    """The periods that keep the lag wherever it begins, and those where it begins on the best of days. Far from
-    holidays one week is like another."""
-    plain, least = calendar.without_holidays(), int(from_end)
-    found = {periods(plain, days, from_end, is_least, time) for time in range(least, plain.round() + 1)}
-    for holiday in calendar.holidays_of():
-        first, last = calendar.from_on(holiday - (days + 1) * DAY), calendar.from_on(holiday + DAY)
-        found |= {periods(calendar, days, from_end, is_least, time) for time in range(max(least, first), last + 1)}
-    return (max(found), min(found)) if is_least else (min(found), max(found))
 
 
 @dataclass
@@ -86,11 +41,11 @@ class Activities:
 
 @dataclass
 class Lags:
-    """The arcs that are read, and which of them are calendar days."""
+    """The arcs that are read, and what some of them are in calendar days."""
 
     activities: Activities
     arcs: list[Arc] = field(default_factory=list)
-    by_calendar: list[CalendarLag] = field(default_factory=list)
+    dated: list[DatedLag] = field(default_factory=list)
 
     def read(self, row: Row, activity: int, faults: Faults) -> None:
         if row.cell(Column.AFTER):
@@ -130,15 +85,17 @@ class Lags:
         most."""
         column = column if column in row.terms.columns.places else Column.AFTER
         if length.unit is Unit.CALENDAR_DAYS:
-            periods = self.from_calendar(row, column, before, base, length, is_least)
-        else:
-            periods = row.periods(column, length)
+            self.arcs.append(self.from_calendar(row, column, before, activity, base, length, is_least))
+            return
+        periods = row.periods(column, length)
         if before == 0 and is_least and not self.activities.length(activity) and is_dated(row.cell(Column.AFTER)):
             self.activities.mornings.setdefault(activity, []).append(base + periods)
         total = bounded(row, column, base + periods)
         self.arcs.append(Arc(before, activity, total) if is_least else Arc(activity, before, -total))
 
-    def from_calendar(self, row: Row, column: Column, before: int, base: int, length: Length, is_least: bool) -> int:
+    def from_calendar(self, row: Row, column: Column, before: int, activity: int, base: int, length: Length,
+                      is_least: bool) -> Arc:
+        """The arc that every date allows."""
         calendar, days = row.terms.calendar, length.value
         if calendar is None:
             raise row.fault(column, "calendar days need --from, the first day of the project")
@@ -148,9 +105,11 @@ class Lags:
             raise row.fault(column, "calendar days count from an activity; write the date that is meant")
         takes_time = self.activities.length(before) > 0
         from_end = base > 0 if takes_time else not is_least
-        worst, best = everywhere(calendar, int(days), from_end, is_least)
-        self.by_calendar.append(CalendarLag(len(self.arcs), int(days), from_end, is_least, worst, best, row.number))
-        return worst
+        least, most = everywhere(calendar, int(days), from_end, is_least)
+        total = bounded(row, column, base + (least if is_least else most))
+        arc = Arc(before, activity, total) if is_least else Arc(activity, before, -total)
+        self.dated.append(DatedLag(arc, int(days), base, from_end, is_least, calendar))
+        return arc
 
     def read_link(self, row: Row, activity: int, text: str) -> None:
         """One predecessor, such as 12, 14SS or 9FF-1 d."""

@@ -158,7 +158,7 @@ class Page:
         """The lags of each activity in words, with how much they leave."""
         found: dict[int, list[str]] = {}
         for arc in self.project.arcs:
-            left = self.view.starts[arc.head] - self.view.starts[arc.tail] - arc.lag
+            left = self.project.slack(arc, self.view.starts)
             spare = "" if not self.view.is_plan else f": {self.opened.length(left)} to spare" if left else ": tight"
             for activity in dict.fromkeys((arc.tail, arc.head)):
                 found.setdefault(activity, []).append(self.words.lag(arc) + spare)
@@ -223,7 +223,7 @@ def fact(figure: str, what: str) -> Element:
 def held(words: Words, starts: tuple[int, ...], activity: int) -> list[str]:
     """Why an activity can't start one period sooner while the others stay."""
     project, start = words.project, starts[activity]
-    told = [words.lag(arc) for arc in project.arcs if arc.head == activity and starts[arc.tail] + arc.lag == start]
+    told = [words.lag(arc) for arc in project.arcs if arc.head == activity and project.slack(arc, starts) == 0]
     if not start:
         return [*told, "the project starts then"]
     for resource, units in enumerate(project.demands[activity]):

@@ -11,9 +11,8 @@ from ..errors import BadInput, Failed
 from ..files import read_bytes, write_new
 from ..outcome import Claim
 from ..project import Arc, Goal, Project
-from ..project_text import ProjectText
 from ..psmax import Psmax
-from ..record import Record
+from ..record import record_in
 from ..total import TotalFloat
 from .answer import feasible
 from .answer_text import AnswerText, Begin, answer_of
@@ -128,7 +127,7 @@ def contents(plan: Plan, stem: str) -> dict[str, bytes]:
     table = write_sheet(rows(opened, starts, with_dates=False)).encode()
     answer, found, files = feasible(opened, answer_of(table, f"{stem}.csv"), psmax), None, {f"{stem}.csv": table}
     if plan.record is not None:
-        record = Record(read_bytes(plan.record, None), ProjectText(plan.project))
+        record = record_in(read_bytes(plan.record, None), plan.project)
         which = opened.path if plan.project == opened.project else f"{opened.path} that keeps what has started"
         with suppress(Failed):
             judgement = judged(record, os.path.basename(f"{stem}.record"), which)

@@ -90,6 +90,12 @@ class ProjectFile:
         return time_of(text, name, self.settings, self.calendar, scale)
 
 
+def must_be_ordinary(opened: ProjectFile, out: str | None) -> None:
+    """A folder of project texts with records has no place for cases, which lags in calendar days need."""
+    if out is not None and opened.project.dated:
+        raise BadInput(f"{opened.path} has lags in calendar days, of which no project text says all; leave out --out")
+
+
 def page_of(project: str) -> str:
     return os.path.splitext(project)[0] + ".md"
 

@@ -93,7 +93,7 @@ def read_activities(path: str, out: str | None, words: Settings) -> int:
              many(len(opened.project.arcs), "lag")]
     sizes += [many(len(opened.project.absences), "absence")] if opened.project.absences else []
     print(f"{target}: {', '.join(sizes)}; names in {named}")
-    print(*found.notes, *said_of_text(spelled), what_is_clear(least, opened), sep="\n")
+    print(*found.notes, *said_of_text(spelled), *said_of_dates(opened), what_is_clear(least, opened), sep="\n")
     return 0
 
 
@@ -106,6 +106,13 @@ def said_of_text(spelled: ProjectText) -> list[str]:
     hidden, goal = len(spelled.project.absences), spelled.project.goal.value
     told = [f"Its last {many(hidden, 'activity') if hidden == 1 else f'{hidden} activities'} before the end are absences."]
     return (told if hidden else []) + ([f"Its end starts {spelled.offset} after the {goal}."] if spelled.offset else [])
+
+
+def said_of_dates(opened: ProjectFile) -> list[str]:
+    """What the numbers leave out."""
+    words = Words(opened)
+    return [f"The text has less, since it knows no dates: {words.lag(arc)}. `plan solve` of the table keeps that."
+            for arc in words.dated]
 
 
 def must_be_ours(target: str, named: str, source: str, there: bytes | None, is_named: bool) -> None:

@@ -5,6 +5,7 @@ from contextlib import suppress
 from dataclasses import dataclass, replace
 
 from ..calendars import Calendar
+from ..dated import DatedLag
 from ..dates import is_dated
 from ..errors import BadInput
 from ..letters import printable, short
@@ -14,7 +15,7 @@ from .absences import read_absences
 from .columns import LAGS, Column, Columns, is_head, read_heads, resource
 from .csv_text import Sheet, cell, read_sheet
 from .faults import Faults, fault_at
-from .lags import START, START_OF, WITH, Activities, CalendarLag, Lags, lengths_in
+from .lags import START, START_OF, WITH, Activities, Lags, lengths_in
 from .names import Names
 from .progress import Progress
 from .quantities import Length, Scale, Unit, read_length, scale_of, units_of
@@ -32,7 +33,6 @@ class Table:
     calendar: Calendar | None
     groups: tuple[Group, ...]
     mornings: dict[int, list[int]]  # times at which a date says that an activity without duration may be, by activity
-    by_calendar: tuple[CalendarLag, ...]
     progress: Progress
     scale: Scale
     notes: tuple[str, ...]  # what is to be said of it before anything is done with it
@@ -143,15 +143,13 @@ class Reading:
         progress.read(self.rows, self.durations, self.faults)
         lags, due = self.lags(), self.due()
         self.faults.tell()
-        arcs, broken = without_history(lags.arcs, progress)
+        arcs, broken = without_history(lags.arcs, progress, lags.dated)
         called = {number: name for name, number in self.names.items()}
         project, names = self.project((*arcs, *progress.arcs(len(self.rows))), due, called)
-        by_calendar = tuple(replace(one, place=arcs.index(lags.arcs[one.place])) for one in lags.by_calendar
-                            if lags.arcs[one.place] in arcs)
-        days = [said_of_days(one, lags.arcs[one.place], called) for one in lags.by_calendar]
-        notes = [*self.said_of_period(), *self.terms.rounded, *days, *(said_of_history(arc, called) for arc in broken)]
+        project = replace(project, dated=tuple(one for one in lags.dated if one.arc in arcs))
+        notes = [*self.said_of_period(), *self.terms.rounded, *(said_of_history(arc, called) for arc in broken)]
         found = tuple(groups(self.named, self.depth, [place in self.groups for place in range(len(self.named))]))
-        return Table(project, names, self.settings, self.terms.calendar, found, lags.activities.mornings, by_calendar, progress,
+        return Table(project, names, self.settings, self.terms.calendar, found, lags.activities.mornings, progress,
                      self.terms.scale, tuple(notes))
 
     def part(self) -> None:
@@ -268,18 +266,14 @@ class Reading:
         return [f"a period is one of {scale.name()}, {why}{day}"]
 
 
-def without_history(arcs: Sequence[Arc], progress: Progress) -> tuple[list[Arc], list[Arc]]:
+def without_history(arcs: Sequence[Arc], progress: Progress, dated: Sequence[DatedLag]) -> tuple[list[Arc], list[Arc]]:
     """The lags but for those between two that have started where they weren't kept, and these. Both starts are real, so such
     a lag says nothing of what comes."""
     starts = progress.started | {0: 0}
+    late = [one.arc for one in dated if {one.first, one.last} <= starts.keys() and one.slack(starts) < 0]
     broken = [arc for arc in arcs if arc.tail in starts and arc.head in starts
-              and starts[arc.head] < starts[arc.tail] + arc.lag]
+              and (starts[arc.head] < starts[arc.tail] + arc.lag or arc in late)]
     return [arc for arc in arcs if arc not in broken], broken
-
-
-def said_of_days(one: CalendarLag, arc: Arc, called: dict[int, str]) -> str:
-    before, after = (arc.tail, arc.head) if one.is_least else (arc.head, arc.tail)
-    return one.text(called[after], called[before])
 
 
 def said_of_history(arc: Arc, called: dict[int, str]) -> str:

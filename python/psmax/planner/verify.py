@@ -11,9 +11,10 @@ from ..project import Goal
 from ..project_text import ProjectText
 from ..psmax import Psmax
 from ..psprove import Psprove
-from ..record import OF_PSMAX, WRONG, Record
+from ..record import OF_PSMAX, WRONG, Record, record_in
 from .beginning import Start, begin_with
 from .project_file import ProjectFile
+from .read_back import many
 
 RECORD = b"record "  # how one begins
 
@@ -47,7 +48,10 @@ class Verdict:
         return f"{self.path} proves that no schedule of {self.which} {least}{ends}."
 
     def judges(self) -> str:
-        parts = "" if self.parts == 1 else f" in {self.parts} parts"
+        parts, cases = "" if self.parts == 1 else f" in {self.parts} parts", self.record.cases()
+        if cases:
+            return (f"It has the records of {many(cases, 'case')}, which have all schedules between them by the calendar of "
+                    f"the table. `{self.program} verify`, which is proved itself, has judged each record.")
         return (f"`{self.program} verify`, which is proved itself, has judged it{parts}; {self.script} judges it without "
                 f"{self.program}.")
 
@@ -71,10 +75,11 @@ class Shares:
 def verdict(opened: ProjectFile, path: str, start: Start, shares: Shares | None = None) -> Verdict:
     """The verdict on a record of the project, or of it with what has started kept."""
     keeps = "" if start.frozen is None else f" that keeps what {start.answer} starts before {start.frozen}"
-    spelled, which = ProjectText(begin_with(opened, start).project), f"{opened.path}{keeps}"
+    project, which = begin_with(opened, start).project, f"{opened.path}{keeps}"
     begin = b"" if shares is None else read_bytes(path, len(OF_PSMAX) - 1)
-    if shares is None or begin == OF_PSMAX:
-        return judged(Record(read_bytes(path, None), spelled), path, which)
+    if shares is None or begin == OF_PSMAX or project.dated:
+        return judged(record_in(read_bytes(path, None), project), path, which)
+    spelled = ProjectText(project)
     parts = Parts(path, spelled.text, shares.machines(), Clock())
     told, is_wrong = parts.check()
     return Verdict(path, Record(begin, spelled), which, Psprove.name, "verify_log.py", told, is_wrong, parts.count)

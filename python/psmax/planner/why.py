@@ -13,7 +13,7 @@ from ..psmax import Psmax, starts_text
 from ..psprove import Limits, Psprove
 from .beginning import Start, begin_with
 from .circles import circles, in_words
-from .project_file import ProjectFile
+from .project_file import ProjectFile, must_be_ordinary
 from .wording import Words, are
 
 FIRST = 1_000  # conflicts of a first search, which mostly finds a schedule where there is one
@@ -172,6 +172,7 @@ class Causes:
 
 def why(opened: ProjectFile, start: Start, deadline: int | None, seconds: float, jobs: int, out: str | None) -> int:
     must_be_empty(out)
+    must_be_ordinary(opened, out)
     project = begin_with(opened, start).project
     clock = Clock(seconds)
     clock.listen()

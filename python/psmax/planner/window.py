@@ -2,6 +2,7 @@
 from collections.abc import Iterable, Sequence
 from dataclasses import dataclass
 
+from ..dated import DatedLag
 from ..errors import Failed
 from ..project import Project
 from ..psmax import Psmax
@@ -109,7 +110,22 @@ def by_lags(project: Project, starts: tuple[int, ...]) -> dict[int, Window]:
         if tail != head:
             least[head] = max(least[head], starts[tail] + lag)
             most[tail] = min(most[tail], starts[head] - lag)
+    for one in project.dated:
+        narrow(one, starts, least, most)
     return {activity: Window(least[activity], most[activity]) for activity in range(1, project.end)}
+
+
+def narrow(one: DatedLag, starts: tuple[int, ...], least: list[int], most: list[int]) -> None:
+    """What a lag in calendar days leaves, where the other of its two activities stays."""
+    limit, first = one.limit(starts[one.first] + one.base), starts[one.first]
+    if one.is_least:
+        least[one.last] = max(least[one.last], limit)
+        most[one.first] = next(time for time in range(most[one.first], first - 1, -1)
+                               if one.limit(time + one.base) <= starts[one.last])
+    else:
+        most[one.last] = min(most[one.last], limit)
+        least[one.first] = next(time for time in range(least[one.first], first + 1)
+                                if one.limit(time + one.base) >= starts[one.last])
 
 
 def by_resources(project: Project, starts: tuple[int, ...], activity: int, window: Window,

@@ -2,6 +2,7 @@
 where there is a calendar."""
 from collections.abc import Sequence
 
+from ..dated import DatedLag
 from ..project import Absence, Arc, Goal
 from ..psmax import Violation
 from .project_file import ProjectFile
@@ -14,6 +15,7 @@ class Words:
         self.opened = opened
         self.project = opened.project
         self.names = opened.names.with_dummies(opened.project.end)
+        self.dated = {one.arc: one for one in opened.project.dated}
 
     def time(self, time: int) -> str:
         """A time at which something begins."""
@@ -46,6 +48,8 @@ class Words:
 
     def lag(self, arc: Arc, verb: str = "starts") -> str:
         """An arc as a sentence: a negative lag is a greatest one the other way round."""
+        if arc in self.dated:
+            return self.calendar_lag(self.dated[arc], verb)
         if arc.lag < 0 or arc.head == 0:
             return self.greatest(arc, verb)
         if arc.head == self.project.end:
@@ -54,6 +58,11 @@ class Words:
         if arc.tail == 0:
             return f"{name} {verb} {on(self.opened.times(arc.head, arc.lag)[0])} or later"
         return f"{name} {verb} {self.distance('at least', arc.lag, arc.tail)}"
+
+    def calendar_lag(self, one: DatedLag, verb: str) -> str:
+        limit, first = "at least" if one.is_least else "at most", self.names.activity(one.first)
+        days = f"{one.days} calendar day{'' if one.days == 1 else 's'}"
+        return f"{self.names.activity(one.last)} {verb} {limit} {days} after {first} {'ends' if one.base else 'starts'}"
 
     def of_end(self, arc: Arc, verb: str) -> str:
         """Why the end can't be sooner."""
@@ -68,6 +77,8 @@ class Words:
 
     def greatest(self, arc: Arc, verb: str = "starts") -> str:
         """A lag that is at most 0, or one to the start, as the maximum lag that it is."""
+        if arc in self.dated:
+            return self.calendar_lag(self.dated[arc], verb)
         if arc.tail == self.project.end:
             far = self.distance("at most", -arc.lag, arc.head)
             return self.deadline(-arc.lag) if arc.head == 0 else f"the project ends {far}"
@@ -117,6 +128,11 @@ class Words:
         """What must be, and what is."""
         if violation.kind == "lag":
             return self.broken(Arc(*violation.numbers), starts)
+        if violation.kind == "dated":
+            one = self.project.dated[violation.numbers[0]]
+            told = self.opened.times(one.last, starts[one.last])[0]
+            by = f"{self.many(-one.slack(starts))} too {'soon' if one.is_least else 'late'}"
+            return f"{self.calendar_lag(one, 'must start')}, and starts {on(told)}, which is {by}"
         if violation.kind == "overload":
             return self.overload(violation.numbers[0], violation.numbers[1], starts)
         return f"the project must start at 0, and starts at {violation.numbers[0]}"
