@@ -10,6 +10,8 @@ bolt,2,1,lift
 done,0,,bolt
 """
 
+FIVE = "feasible, ends Thu 2026-03-12 (5 days)\n"
+
 
 class Answers(InFolder):
     def setUp(self) -> None:
@@ -33,20 +35,20 @@ class Answers(InFolder):
                               (("3/6/2026", "3/11/2026", "3/12/2026"), ("--dates", "mdy"))):
             with self.subTest(starts):
                 text = "name,start\n" + "".join(f"{name},{start}\n" for name, start in zip(("lift", "bolt", "done"), starts))
-                self.assertEqual(self.checked(text, *words), "feasible 5\n")
+                self.assertEqual(self.checked(text, *words), FIVE)
 
     def test_ends_are_not_read(self) -> None:
-        self.assertEqual(self.checked("name,start,end\nlift,0,99\nbolt,3,\ndone,5,soon\n"), "feasible 5\n")
+        self.assertEqual(self.checked("name,start,end\nlift,0,99\nbolt,3,\ndone,5,soon\n"), FIVE)
 
     def test_an_edited_date(self) -> None:
         """The period and the date of a row say the same, or the row is told."""
         text = plan("write", self.table, self.file("a.csv", "name,start\nlift,0\nbolt,3\ndone,5\n")).stdout
-        self.assertEqual(self.checked(text), "feasible 5\n")
+        self.assertEqual(self.checked(text), FIVE)
         self.fault(text.replace("3,2,5,2026-03-11", "3,2,5,2026-03-10"),
                    "a.csv: row 3, column C (start): 3 is 2026-03-11, and its "
                    "date says 2026-03-10; correct one of them")
         self.fault(text.replace("bolt,3", "bolt,4"), "row 3, column C (start): 4 is 2026-03-12, and its date says 2026-03-11")
-        self.assertEqual(self.checked(text.replace("bolt,3,", "bolt,,")), "feasible 5\n")
+        self.assertEqual(self.checked(text.replace("bolt,3,", "bolt,,")), FIVE)
 
     def test_dates_that_can_not_be(self) -> None:
         for date, told in (("2026-03-07", "no period of work begins at 2026-03-07"),
@@ -68,10 +70,10 @@ class Answers(InFolder):
         rows = "name,start{}\nlift,0{}\nbolt,{}\ndone,{}\nlook,{}\n"
         for heads, unit, starts in (("", "", ("3", "5", "5")), (",period", ",4 hours", ("6,4 hours", "10,", "10,")),
                                     (",period", ",Hours", ("24,Hours", "40,", "40,"))):
-            self.assertEqual(self.checked(rows.format(heads, unit, *starts)), "feasible 44\n")
+            self.assertEqual(self.checked(rows.format(heads, unit, *starts)), "feasible, ends Fri 2026-03-13 12:00 (44 h)\n")
         new = self.file("new.csv", rows.format("", "", "3", "5", "5"))
         told = plan("compare", self.table, old, new).stdout
-        self.assertIn("makespan 5 d -> 5.5 d, 4 h later", told)
+        self.assertIn("makespan 40 h -> 44 h, 4 h later", told)
         self.assertIn("3 of 4 start as before\n", told)
         alone = self.file("alone.sch", "1 0 0 0\n0 1 0\n1 1 0\n2 1 0\n0 1 0\n1 1 5\n2 1 0\n")
         answer = self.file("b.csv", "activity,start,period\n1,0,weeks\n")

@@ -49,7 +49,8 @@ class CalendarDays(InFolder):
         ran = plan("check", table, self.file("a.csv", "name,start\ndig,0\nwall,2\n"))
         self.assertEqual((ran.returncode, ran.stdout), (4, "2 (wall) must start at least 3 calendar days after 1 (dig) ends, "
                                                         "and starts on 2026-03-09, which is 1 d too soon\n"))
-        self.assertEqual(plan("check", table, self.file("a.csv", "name,start\ndig,0\nwall,3\n")).stdout, "feasible 4\n")
+        self.assertEqual(plan("check", table, self.file("a.csv", "name,start\ndig,0\nwall,3\n")).stdout,
+                         "feasible, ends Tue 2026-03-10 (4 d)\n")
 
     def test_by_hand(self) -> None:
         """From Friday to Tuesday; and if all is a day sooner, from Thursday to Monday, so that painting is a day sooner too."""

@@ -42,7 +42,7 @@ class Dates(InFolder):
         self.refused(self.ran("write", "--from", "2026-03-02", "--period", "days"), 2, "was made with another calendar")
         self.read("weeks", "--from", "2026-03-02", "--period", "days")
         self.file("p.st", STARTS.replace("2 3", "2 21").replace("3 3", "3 21"))
-        self.assertEqual(self.ran("check").stdout, "feasible 35\n")
+        self.assertEqual(self.ran("check").stdout, "feasible, ends Sun 2026-04-05 (35 d)\n")
         self.assertIn("2026-03-02,2026-03-22\n", self.ran("write").stdout)
 
     @unittest.skipUnless("Europe/Berlin" in zoneinfo.available_timezones(), "no time zones here")

@@ -8,6 +8,8 @@ from .helpers import InFolder, plan
 # of 9 any order will do.
 TABLE = "activity,days,machine (1),due\na,3,1,5\nb,4,1,6\nc,2,1,1\nd,1,,\n"
 
+MISSED = "LATE: 2 of 3 due: 2 (b) by 3 days, due 6; 3 (c) by 1 day, due 1\n"
+
 
 class Due(InFolder):
     def setUp(self) -> None:
@@ -16,20 +18,20 @@ class Due(InFolder):
         self.answer, self.record = self.folder / "a.csv", self.folder / "rec"
         self.late = ("--minimize", "lateness")
         ran = plan("solve", self.table, *self.late, "--out", self.answer, "--record", self.record)
-        self.assertEqual((ran.returncode, ran.stdout), (0, "optimal lateness 3\n"), ran.stderr)
+        self.assertEqual((ran.returncode, ran.stdout), (0, f"optimal lateness 3\n{MISSED}"), ran.stderr)
 
     def test_answers(self) -> None:
-        self.assertEqual(plan("check", self.table, self.answer, *self.late).stdout, "feasible lateness 3\n")
-        self.assertEqual(plan("check", self.table, self.answer).stdout, "feasible 9\n")
+        self.assertEqual(plan("check", self.table, self.answer, *self.late).stdout, f"feasible lateness 3\n{MISSED}")
+        self.assertEqual(plan("check", self.table, self.answer).stdout, f"feasible 9\n{MISSED}")
         told = json.loads(plan("solve", self.table, *self.late, "--json").stdout)
         self.assertEqual([told[key] for key in ("status", "lateness", "bound", "makespan", "starts")],
                          ["optimal", 3, 3, 9, [0, 2, 5, 0, told["starts"][4], 9]])
         again = self.file("again.json", json.dumps(told))
-        self.assertEqual(plan("check", self.table, again, *self.late).stdout, "feasible lateness 3\n")
+        self.assertEqual(plan("check", self.table, again, *self.late).stdout, f"feasible lateness 3\n{MISSED}")
         plain = self.file("plain", plan("solve", self.table, *self.late).stdout)
         self.assertEqual(plain.read_text().splitlines()[-1], "5 9")
-        self.assertEqual(plan("check", self.table, plain, *self.late).stdout, "feasible lateness 3\n")
-        self.assertEqual(plan("solve", self.table, *self.late, "--out", self.answer).stdout, "optimal lateness 3\n")
+        self.assertEqual(plan("check", self.table, plain, *self.late).stdout, f"feasible lateness 3\n{MISSED}")
+        self.assertEqual(plan("solve", self.table, *self.late, "--out", self.answer).stdout, f"optimal lateness 3\n{MISSED}")
 
     def test_nothing_is_late(self) -> None:
         """By hand: what is due by 20 and ends by 9 is 11 early; a project of a lateness below 0 is one too."""

@@ -46,7 +46,7 @@ class Float(InFolder):
             "last day": "2026-03-04", "earliest": "0", "latest": "6", "free float": "6", "earliest day": "2026-03-02",
             "latest day": "2026-03-10"})
         self.assertEqual([row["name"] for row in rows if row["free float"] == "0"], ["b", "c", "end of lifting"])
-        self.assertEqual(plan("check", self.project, out, *words[2:]).stdout, "feasible 7\n")
+        self.assertEqual(plan("check", self.project, out, *words[2:]).stdout, "feasible, ends Tue 2026-03-10 (7 days)\n")
 
     def test_charts(self) -> None:
         lines = plan("float", self.project, self.answer, "--chart").stdout.splitlines()

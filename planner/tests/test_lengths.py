@@ -49,7 +49,7 @@ class Dates(InFolder):
         self.assertIn("3,delivery,3,0,3,2026-03-05,2026-03-05\n", rows)
         self.assertIn("4,lift,3,1,4,2026-03-05,2026-03-05\n", rows)
         back = self.file("b.csv", "name,start\ndig,2026-03-02\ndone,2026-03-03\ndelivery,2026-03-05\nlift,2026-03-05\n")
-        self.assertEqual(plan("check", table, back, *MONDAY).stdout, "feasible 4\n")
+        self.assertEqual(plan("check", table, back, *MONDAY).stdout, "feasible, ends Thu 2026-03-05 (4 days)\n")
 
     def test_faults(self) -> None:
         for cells, told in ((",,3/2/2026,", "'3/2/2026': the day or the month may stand first; say which by --dates dmy"),
@@ -114,32 +114,33 @@ class Lengths(InFolder):
         self.assertEqual(found, "35")
         self.assertIn("a period is one of 30 minutes, which divide all lengths of", told)
 
-    def test_half_days_and_hours_are_shown_as_they_are_written(self) -> None:
+    def test_half_days_and_hours_are_shown_in_hours(self) -> None:
         """By hand: a day and a half from Monday 08:00 on, at eight hours a day; then two days, and four hours until Thursday
         17:00, which is 32 hours. With an hour more the last one ends on Friday at 09:00."""
         heads = "from,2026-03-02\nworkdays,mon-fri\nactivity,days,after,due\n"
         text = heads + 'strip,"1,5 d",,\nmend,2 d,strip,\nclose,4 h,mend,2026-03-04\n'
         table, answer = self.file("p.csv", text), self.folder / "a.csv"
-        self.assertEqual(plan("solve", table, "--out", answer).stdout, "optimal 32\n")
+        self.assertEqual(plan("solve", table, "--out", answer).stdout, "optimal, ends Thu 2026-03-05 17:00 (32 h)\n"
+                         "LATE: 1 of 1 due: 3 (close) by 8 h, due Wed 2026-03-04 17:00\n")
         self.assertEqual(plan("write", table, answer).stdout.splitlines()[1:], [
-            "1,strip,0,12,12,hours,1.5 d,2026-03-02 08:00,2026-03-03 12:00",
-            "2,mend,12,16,28,hours,2 d,2026-03-03 13:00,2026-03-05 12:00",
+            "1,strip,0,12,12,hours,12 h,2026-03-02 08:00,2026-03-03 12:00",
+            "2,mend,12,16,28,hours,16 h,2026-03-03 13:00,2026-03-05 12:00",
             "3,close,28,4,32,hours,4 h,2026-03-05 13:00,2026-03-05 17:00"])
         self.assertIn("(a column is 2 h)\n", plan("gantt", table, answer, "--width", "20").stdout)
         self.assertEqual(plan("why", table, "--within", "31").stdout.splitlines()[-2],
                          "  Allow the project to end 1 h later, or let 3 (close) start 1 h sooner after 2 (mend).")
         page = self.folder / "a.html"
         self.assertEqual(plan("report", table, answer, "--out", page).returncode, 0)
-        for told in ("<b>4 d</b>of work", '<td data-key="12">1.5 d</td>', '<td data-key="8">1 d</td>'):
+        for told in ("<b>32 h</b>of work", '<td data-key="12">12 h</td>', '<td data-key="8">8 h</td>'):
             self.assertIn(told, page.read_text())
         longer, new = self.file("longer.csv", text.replace("4 h", "5 h")), self.folder / "new.csv"
         plan("solve", longer, "--out", new)
         self.assertEqual(plan("compare", longer, answer, new).stdout.splitlines()[:2], [
-            "makespan 4 d -> 33 h, 1 h later (2026-03-05 17:00 -> 2026-03-06 09:00)", "lateness 1 d -> 9 h, 1 h later"])
+            "makespan 32 h -> 33 h, 1 h later (2026-03-05 17:00 -> 2026-03-06 09:00)", "lateness 8 h -> 9 h, 1 h later"])
 
         days = self.file("d.csv", 'activity,days\nstrip,"2,25"\nmend,0.5\n')
         rows = plan("write", days, self.file("b.csv", "name,start\nstrip,0\nmend,0\n")).stdout
-        self.assertEqual(rows.splitlines()[1:], ["1,strip,0,9,9,2 hours,2.25 d", "2,mend,0,2,2,2 hours,0.5 d"])
+        self.assertEqual(rows.splitlines()[1:], ['1,strip,0,9,9,2 hours,"2,25 d"', '2,mend,0,2,2,2 hours,"0,5 d"'])
 
     def test_a_text_without_its_table(self) -> None:
         """Its page has the hours of a day, also those that plan took: a day and a half end at noon."""
@@ -183,4 +184,4 @@ class Lengths(InFolder):
         told = plan("solve", table, "--start", old, "--frozen", "3").stderr
         self.assertIn("3 of 4 activities start before 3 in", told)
         early = self.file("a.csv", "name,start\nlift,2\nset,0\nlate,5\nlook,0\n")
-        self.assertEqual(plan("check", table, early).stdout, "3 (late) must start at 7 d or later, and starts at 5 d\n")
+        self.assertEqual(plan("check", table, early).stdout, "3 (late) must start at 56 h or later, and starts at 40 h\n")

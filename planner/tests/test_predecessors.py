@@ -74,14 +74,14 @@ WBS;ID;Task Name;Duration;Predecessors
 """
 
     def test_groups(self) -> None:
-        """Brackets in charts, from the first start to the last end, without a number; no activities, no lags."""
+        """Brackets in charts, from the first start to the last end, without an ID; no activities, no lags."""
         table = self.file("p.csv", self.TABLE)
         answer = self.folder / "a.csv"
         self.assertEqual(plan("solve", table, "--out", answer).stdout, "optimal 9\n")
         lines = plan("gantt", table, answer).stdout.splitlines()
         self.assertEqual([line.split() for line in lines[3:8]], [
-            ["Earthworks", "0", "[===]...."], ["1", "Dig", "0", "###......"], ["2", "Drain", "3", "...##...."],
-            ["Frame", "5", ".....[==]"], ["3", "Columns", "5", ".....####"]])
+            ["Earthworks", "0", "[===]...."], ["2", "Dig", "0", "###......"], ["3", "Drain", "3", "...##...."],
+            ["Frame", "5", ".....[==]"], ["5", "Columns", "5", ".....####"]])
         self.assertEqual(len(answer.read_text().splitlines()), 4)
         self.assertEqual(plan("gantt", table, answer, "--svg", self.folder / "c.svg").returncode, 0)
         self.assertIn(">Earthworks</text>", (self.folder / "c.svg").read_text())

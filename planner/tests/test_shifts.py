@@ -47,7 +47,8 @@ class Shifts(InFolder):
     def test_answers_with_dates(self) -> None:
         path = self.file("p.csv", TABLE)
         answer = "name,start\nstrip,2026-03-02 07:00\nmend,{}\ndone,10\npaint,10\n"
-        for text, told in (("2026-03-02 14:00", "feasible 41\n"), ("02.03.2026 14:00", "feasible 41\n")):
+        ends = "feasible, ends Mon 2026-03-09 08:00 (41 hours)\n"
+        for text, told in (("2026-03-02 14:00", ends), ("02.03.2026 14:00", ends)):
             ran = plan("check", path, self.file("a.csv", answer.format(text)), *WORDS)
             self.assertEqual(ran.stdout, told, ran.stderr)
         bad = self.file("a.csv", answer.format("2026-03-02 12:30"))

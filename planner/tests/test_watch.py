@@ -33,14 +33,14 @@ class Following(Watches):
         """By hand: the trusses come on day 20, then 2 to lift, 1 to test, 4 to sheet, 2 for gutters and 1 to strike are 30."""
         self.file("hall-holidays.txt", (EXAMPLES / "hall-holidays.txt").read_text())
         watch = self.watching(HALL)
-        self.assertEqual(watch.until(done("optimal 27"))["heads"], [])
-        state = watch.saved(CHANGED, done("optimal 30"))
+        self.assertEqual(watch.until(done("(27 days)"))["heads"], [])
+        state = watch.saved(CHANGED, done("(30 days)"))
         self.assertEqual(state["heads"][0], "makespan 27 -> 30, 3 later (2026-04-09 -> 2026-04-14)")
         moved = {kind: [name for name, _ in moves] for kind, moves in state["moved"]}
         self.assertEqual(moved["new"], ["test the bolts"])
         self.assertIn("get trusses", moved["later"])
         self.assertNotIn("gone", moved)
-        state = watch.saved(HALL, done("optimal 27"))
+        state = watch.saved(HALL, done("(27 days)"))
         self.assertEqual({kind: [name for name, _ in moves] for kind, moves in state["moved"]}["gone"], ["test the bolts"])
 
     def test_other_files(self) -> None:
@@ -51,14 +51,14 @@ class Following(Watches):
         self.file("off.txt", "2026-12-25\n")
         away = self.file("away.csv", "resource,from,to\n")
         watch = self.watching(text)
-        state = watch.until(done("optimal 7"))
+        state = watch.until(done("(7 days)"))
         self.assertIn("to 2026-03-08.", state["parts"]["made"])
         self.file("off.txt", "2026-03-03\n")
         state = watch.until(lambda state: "to 2026-03-09." in state["parts"]["made"])
         self.assertIn("makespan 7 -> 7 (2026-03-08 -> 2026-03-09)", state["heads"])
         away.write_text("resource,from,to\ncrane,2026-03-06,2026-03-06\n")
-        self.assertIn("makespan 7 -> 8, 1 later (2026-03-09 -> 2026-03-10)", watch.until(done("optimal 8"))["heads"])
-        state = watch.saved(text.replace("status,2026-03-02", "status,2026-03-04"), done("optimal 11"))
+        self.assertIn("makespan 7 -> 8, 1 later (2026-03-09 -> 2026-03-10)", watch.until(done("(8 days)"))["heads"])
+        state = watch.saved(text.replace("status,2026-03-02", "status,2026-03-04"), done("(11 days)"))
         self.assertIn("makespan 8 -> 11, 3 later (2026-03-10 -> 2026-03-13)", state["heads"])
 
     def test_a_fault(self) -> None:

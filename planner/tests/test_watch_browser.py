@@ -61,7 +61,7 @@ class InBrowser(Watches):
         """It appears beside what was there; place, zoom and choice stay."""
         self.file("hall-holidays.txt", (EXAMPLES / "hall-holidays.txt").read_text())
         watch = self.opened(HALL)
-        self.done("optimal 27")
+        self.done("(27 days)")
         self.click("in")
         wide = "return document.querySelector('#ruler svg').width.baseVal.value"
         self.until(lambda: self.run_script(wide) > 1000)
@@ -72,7 +72,7 @@ class InBrowser(Watches):
         name, left, top = self.run_script(where)
         self.assertEqual((name, left), ("9 sheet the roof", 100))
         watch.table.write_text(CHANGED)
-        self.done("optimal 30")
+        self.done("(30 days)")
         self.assertEqual(self.run_script(where), ["10 sheet the roof", 100, top])
         self.assertGreater(self.run_script(wide), 1000)
         self.assertIn("9 test the bolts", self.run_script(ROWS))

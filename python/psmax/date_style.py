@@ -1,5 +1,6 @@
-"""How dates are written: as the planner's table writes them."""
+"""How dates and numbers are written: as the planner's table writes them."""
 import datetime
+import re
 from collections import Counter
 from collections.abc import Iterable
 from dataclasses import dataclass
@@ -9,6 +10,7 @@ from .dates import DAYS, DOTS, ISO, NAME, SLASHES
 FORMS = {"iso": "{0.year:04}-{0.month:02}-{0.day:02}", "dots": "{0.day:02}.{0.month:02}.{0.year:04}",
          "dmy": "{0.day:02}/{0.month:02}/{0.year:04}", "mdy": "{0.month:02}/{0.day:02}/{0.year:04}"}
 
+NUMBER = re.compile(r"[-+]?\d{0,9},\d{1,2}\s*[^\W\d_]*[.?]*")  # with a comma, and perhaps with a unit
 MARKS = {"iso": "%m-%d", "dots": "%d.%m.", "dmy": "%d/%m", "mdy": "%m/%d"}
 
 
@@ -30,6 +32,11 @@ class DateStyle:
     def mark(self, day: datetime.date) -> str:
         """In few letters, for a chart."""
         return f"{day:{MARKS[self.form]}}"
+
+
+def decimal_sign(texts: Iterable[str]) -> str:
+    """A comma where some number has one, such as 1,5 d; else a point, which stands in codes such as 1.2 too."""
+    return "," if any(NUMBER.fullmatch(text.strip()) for text in texts) else "."
 
 
 def weekday(day: datetime.date) -> str:

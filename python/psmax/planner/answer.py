@@ -27,8 +27,8 @@ class Answer:
     def verdict(self) -> str:
         return "not feasible" if self.value is None else f"feasible {self.project.goal.words(self.value)}"
 
-    def title(self) -> str:
-        return f"check: {self.verdict()}" + (f"   (the answer says: {self.said})" if self.said else "")
+    def title(self, verdict: str | None = None) -> str:
+        return f"check: {verdict or self.verdict()}" + (f"   (the answer says: {self.said})" if self.said else "")
 
 
 @dataclass(frozen=True)

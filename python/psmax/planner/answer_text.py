@@ -207,9 +207,9 @@ def from_sheet(sheet: Sheet, called: str) -> AnswerText:
     heads = [head.lower() for head in sheet.heads]
     columns = {kind: heads.index(head) for kind, known in HEADS.items() for head in known if head in heads}
     given = AnswerText(called, is_table=True, period=period_of(sheet, called, columns))
-    for number, row in sheet.numbered():
-        key = cell(row, columns.get("activity"))
-        has_number = re.fullmatch("[0-9]{1,4}", key) is not None
+    keys = [cell(row, columns.get("activity")) for _, row in sheet.numbered()]
+    has_number = all(re.fullmatch("[0-9]{1,4}", key) for key in keys)
+    for key, (number, row) in zip(keys, sheet.numbered()):
         activity = int(key) if has_number else len(given.starts) + 1
         if activity in given.starts:
             raise BadInput(f"{called}: row {number}: a second start of activity {activity}")

@@ -3,6 +3,7 @@ from ..clock import Clock
 from ..psmax import Psmax
 from .answer import judged
 from .answer_text import read_answer
+from .headline import verdict
 from .project_file import ProjectFile
 from .read_back import read_back
 
@@ -15,7 +16,7 @@ def check(opened: ProjectFile, given: str | None) -> int:
         return 0
     known = judged(opened, read_answer(given), Psmax(Clock(), opened.path))
     if known.value is not None:
-        print(known.verdict())
+        print(*verdict(opened, known.starts, known.value), sep="\n")
         return 0
     print(*known.violations, sep="\n")
     return VIOLATED

@@ -1,4 +1,5 @@
 """`plan compare`: what has moved from one schedule of a project to another."""
+import datetime
 from collections.abc import Callable
 from dataclasses import dataclass
 
@@ -54,6 +55,11 @@ class Side:
         calendar = self.opened.calendar
         return calendar.times(self.starts[was], self.ends[was])[0] if calendar else self.opened.after(self.starts[was])
 
+    def at(self, was: int) -> datetime.datetime:
+        """The same as a date, where there are dates."""
+        opened = self.before or self.opened
+        return datetime.datetime.min if opened.calendar is None else opened.calendar.begins(self.starts[was])
+
     def called(self, was: int) -> str:
         return self.names[was] or f"activity {was}"
 
@@ -87,7 +93,7 @@ def moves(was: Side, now: Side) -> list[Move]:
     for i, j in sorted(pairs.items(), key=lambda pair: (now.starts[pair[1]], pair[1])):
         before, after, periods = was.when(i), now.when(j), now.starts[j] - was.starts[i]
         if periods or before != after:
-            kind = "later" if periods > 0 or not periods and after > before else "earlier"
+            kind = "later" if periods > 0 or not periods and now.at(j) > was.at(i) else "earlier"
             found.append(Move(kind, now.called(j), f"{before} -> {after}{late(periods, now.opened.length)}"))
     for side, others, kind, says in ((now, pairs.values(), "new", "new, at"), (was, pairs, "gone", "gone, was at")):
         for i in sorted(side.starts.keys() - {*others}, key=lambda i: (side.starts[i], i)):

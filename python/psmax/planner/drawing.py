@@ -22,10 +22,11 @@ class Bar:
     due: int | None = None
     has_started: bool = False
     was: tuple[int, int] | None = None  # when it began and ended in the plan before
+    id: str = ""  # its ID in the table, or its number
 
     @property
     def label(self) -> str:
-        return f"{self.activity} {self.name}".rstrip() if self.activity is not None else self.name
+        return f"{self.id} {self.name}".strip()
 
 
 @dataclass(frozen=True)
@@ -83,7 +84,7 @@ def make(opened: ProjectFile, starts: tuple[int, ...], title: str, notes: tuple[
                  if group.activities.start == i and len(group.activities)]
         bars.append(Bar(i, opened.names.activities.get(i, ""), starts[i], starts[i] + project.durations[i],
                         *opened.times(i, starts[i]), known.windows.get(i), i in known.critical, project.due.get(i),
-                        i in known.started, known.was.get(i)))
+                        i in known.started, known.was.get(i), opened.names.label(i)))
     loads = tuple(Load(opened.names.resource(k), units, joined(stretches(project, starts, k)),
                        cut(away(project, k, ends), ends)) for k, units in enumerate(project.capacities))
     return Drawing(title, notes, begins, ends, tuple(bars), loads, is_plan, opened.calendar, opened.length, opened.after)

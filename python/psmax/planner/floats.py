@@ -16,7 +16,7 @@ from .beginning import Beginning, Start, begin_with
 from .gantt import Chart
 from .project_file import ProjectFile, must_be_ordinary
 from .window import Window, windows
-from .write import Sheet, rows
+from .write import Sheet, in_order, rows
 
 CRITICAL = "critical"
 TABLE = "float.csv"  # in the folder of records
@@ -38,8 +38,7 @@ def table(opened: ProjectFile, answer: Answer, found: dict[int, Window], total: 
     head += ["earliest", "latest", "free float", *(["earliest day", "latest day"] if dated else [])]
     head += ["latest of all", "total float", CRITICAL, *(["latest day of all"] if dated else [])] if total is not None else []
     made = [head]
-    for row in below:
-        activity = int(str(row[0]))
+    for activity, row in zip(in_order(opened, answer.starts), below):
         one = found[activity]
         row += [one.earliest, one.latest, one.float]
         row += [opened.times(activity, start)[0] for start in (one.earliest, one.latest)] if dated else []
@@ -58,7 +57,8 @@ def text(opened: ProjectFile, answer: Answer, found: dict[int, Window], total: T
     lines = [heads, *(cells(opened, answer.starts, i, found[i], total) for i in order)]
     widths = [max(map(len, column)) for column in zip(*lines)]
     names = ["", *(opened.names.activities.get(i, "") for i in order)]
-    labels = ["    ", *(f"{i:4}" for i in order)]
+    ids = ["", *map(opened.names.label, order)]
+    labels = [f"{one:>{max(4, *map(len, ids))}}" for one in ids]
     wide, critical = max(map(len, names)), set() if total is None else total.critical()
     told = []
     for label, name, line, activity in zip(labels, names, lines, [0, *order]):

@@ -8,6 +8,7 @@ from . import drawing, svg
 from .answer import judged
 from .answer_text import read_answer
 from .drawing import Bar, Drawing, Load
+from .headline import verdict
 from .project_file import ProjectFile
 from .window import Stretch
 
@@ -26,14 +27,15 @@ def text(shown: Drawing, width: int) -> str:
     column = shown.length(scale)
     column += " periods" if column.isdigit() else ""
     lines = [shown.title + (f"   (a column is {column})" if scale > 1 else "")]
-    margin = " " * (wide + when + 7)
+    ids = max([4, *(len(bar.id) for bar in shown.bars)])
+    margin = " " * (wide + when + ids + 3)
     lines += [margin + line for line in ruler(shown, first, scale, columns)]
     for bar in shown.bars:
-        number = "" if bar.activity is None else f"{bar.activity}"
-        lines.append(f"{number:>4} {short(bar.name):{wide}} {bar.first:>{when}} {bar_cells(bar, first, scale, columns)}")
+        label = f"{bar.id:>{ids}} {short(bar.name):{wide}}"
+        lines.append(f"{label} {bar.first:>{when}} {bar_cells(bar, first, scale, columns)}")
     for load in shown.loads:
-        label = short(load.name)
-        lines.append(f"     {label:{wide}} {'of ' + str(load.capacity):>{when}} {load_cells(load, first, scale, columns)}")
+        label, units = f"{'':{ids}} {short(load.name):{wide}}", f"of {load.capacity}"
+        lines.append(f"{label} {units:>{when}} {load_cells(load, first, scale, columns)}")
     lines += [margin + line for line in keys(shown)]
     return "".join(line.rstrip() + "\n" for line in [*lines, *shown.notes])
 
@@ -148,5 +150,6 @@ def gantt(opened: ProjectFile, given: str | None, chart: Chart) -> int:
         print(answer.instead)
         return 0
     known = judged(opened, answer, Psmax(Clock(), opened.path))
-    chart.show(drawing.make(opened, known.starts, known.title(), known.violations))
+    lines = [] if known.value is None else verdict(opened, known.starts, known.value)
+    chart.show(drawing.make(opened, known.starts, known.title(*lines[:1]), (*lines[1:], *known.violations)))
     return 0

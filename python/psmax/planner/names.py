@@ -19,11 +19,16 @@ class Names:
     settings: dict[str, str] = field(default_factory=dict)  # rows of the second table
     source: str = ""  # the table that the project was made from
     digest: str = ""  # of that, by SHA-256
+    ids: dict[int, str] = field(default_factory=dict)  # by which the table knows the activities, where it has a column for that
+
+    def label(self, number: int) -> str:
+        """What stands before the name of an activity: its ID, or else its number."""
+        return self.ids.get(number) or f"{number}"
 
     def activity(self, number: int) -> str:
-        """The number of an activity, with its name where it has one."""
+        """The same with the name, where there is one."""
         name = self.activities.get(number, "")
-        return f"{number} ({name})" if name else f"{number}"
+        return f"{self.label(number)} ({name})" if name else self.label(number)
 
     def resource(self, number: int) -> str:
         return self.resources[number] if number < len(self.resources) else f"resource {number}"

@@ -16,13 +16,15 @@ from ..total import TotalFloat
 from . import drawing
 from .chart import LOAD, ROW, RULER, STYLE, Chart, definitions, mark, markup
 from .drawing import Bar, Drawing
+from .headline import MISSED
 from .project_file import ProjectFile
 from .read_back import first_line
 from .window import Window
 from .wording import Words
 
 FOLDER = pathlib.Path(__file__).parent
-PLACES = ("made", "read", "facts", "proof", "definitions", "ruler", "arrows", "heads", "total", "lines", "rows", "uses")
+PLACES = ("headline", "made", "read", "facts", "proof", "definitions", "ruler", "arrows", "heads", "total", "lines", "rows",
+          "uses")
 WIDTH = {"A4": 760, "A3": 1230}  # pixels of the time, so that it fits the paper on its side beside the names
 WIDEST = 36  # pixels of a period at most
 Rows = list[tuple[str, str]]  # rows of a table, each with what it is known by
@@ -41,6 +43,7 @@ class View:
     was: Mapping[int, tuple[int, int]] = field(default_factory=dict)  # when each began and ended in the plan before
     circle: tuple[Arc, ...] = ()  # of lags that contradict each other
     is_plan: bool = True  # and not the starts of a plan before, where there is no schedule
+    headline: tuple[str, ...] = ()
 
 
 class Page:
@@ -64,8 +67,9 @@ class Page:
         arrows = chart.circle(self.view.circle, self.words) if not self.view.is_plan else chart.arrows(
             self.project.arcs, starts, self.words)
         return {
-            "made": escape(self.made()), "read": escape(" ".join(first_line(self.opened))),
-            "facts": markup(*self.facts()), "proof": markup(*in_code(self.view.proof)),
+            "headline": markup(*self.headline()), "made": escape(self.made()),
+            "read": escape(" ".join(first_line(self.opened))), "facts": markup(*self.facts()),
+            "proof": markup(*in_code(self.view.proof)),
             "definitions": markup(definitions(), grid), "ruler": markup(picture(chart.width, RULER, chart.ruler())),
             "arrows": markup(picture(chart.width, chart.height, arrows)), "heads": markup(*self.heads()),
             "total": escape(self.said_of_total()),
@@ -97,7 +101,7 @@ class Page:
         assert bar.activity is not None
         length, needs = self.opened.length, self.needs(bar.activity)
         cells: list[tuple[str, object]] = [
-            (f"{bar.activity}", bar.activity), (bar.name, bar.name), self.total_float(bar.activity),
+            (bar.id, bar.activity), (bar.name, bar.name), self.total_float(bar.activity),
             ("", -1) if bar.window is None else (length(bar.window.float), bar.window.float),
             (bar.first, bar.begins), (bar.last, bar.ends), (length(bar.ends - bar.begins), bar.ends - bar.begins)]
         if self.project.due:
@@ -120,7 +124,7 @@ class Page:
     def heads(self) -> list[Element]:
         dated = self.shown.calendar.heads if self.shown.calendar else ("start", "end")
         found = []
-        for name in ["No.", "Activity", "total float", "free float", *dated, "takes",
+        for name in ["ID" if self.opened.names.ids else "No.", "Activity", "total float", "free float", *dated, "takes",
                      *(["due", "late"] if self.project.due else []), "needs"]:
             found.append(mark("th"))
             found[-1].append(mark("span", "", name, role="button", tabindex=0))
@@ -168,6 +172,10 @@ class Page:
         ends = max([0, *self.project.ends(self.view.starts)])
         spans = f"From {self.words.time(0)} to {self.words.by(ends)}. " if self.view.is_plan else ""
         return f"{spans}Made by plan {__version__} from {self.opened.path}."
+
+    def headline(self) -> list[Element]:
+        """When the project ends, and which due dates are missed."""
+        return [mark("p", "late" if line.startswith(MISSED) else "", line) for line in self.view.headline]
 
     def facts(self) -> list[Element]:
         ends, project, opened = max([0, *self.project.ends(self.view.starts)]), self.project, self.opened

@@ -18,9 +18,10 @@ from .answer import feasible
 from .answer_text import AnswerText, Begin, answer_of
 from .compare import Move, Side, as_before, moves, totals
 from .csv_text import write_sheet
+from .headline import headline
 from .page import View
 from .project_file import ProjectFile
-from .report import page_of, proof
+from .report import headline_of, page_of, proof
 from .verify import judged
 from .window import Window, windows
 from .write import rows
@@ -95,7 +96,8 @@ class Plan(Claim):
             return View(self.opened, self.shadow, self.proof(), circle=self.circle, is_plan=False)
         side = self.side()
         was = {} if side is None else {now: (side.starts[i], side.ends[i]) for i, now in side.now.items()}
-        return View(self.opened, self.starts, self.proof(), self.settled, self.windows, self.total, was)
+        return View(self.opened, self.starts, self.proof(), self.settled, self.windows, self.total, was,
+                    headline=(*headline(self.opened, self, self.starts),))
 
     def moved(self) -> tuple[list[str], list[Move]]:
         """What became of the makespan and of the activities since the plan before."""
@@ -134,5 +136,5 @@ def contents(plan: Plan, stem: str) -> dict[str, bytes]:
             if not judgement.wrong:
                 found, files[f"{stem}.record"] = judgement, record.data
     view = View(opened, starts, proof(answer, found), found is not None and found.bound == answer.value,
-                plan.windows or windows(opened.project, starts, psmax), plan.total)
+                plan.windows or windows(opened.project, starts, psmax), plan.total, headline=headline_of(answer, found, opened))
     return files | {f"{stem}.html": page_of(view, "A4")}

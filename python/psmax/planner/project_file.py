@@ -8,6 +8,7 @@ from dataclasses import dataclass, field, replace
 
 from ..calendars import Calendar
 from ..clock import Clock
+from ..date_style import decimal_sign, style_of
 from ..errors import BadInput
 from ..files import LARGEST, read_bytes, read_text
 from ..formats import FORMATS, read
@@ -39,6 +40,7 @@ class ProjectFile:
     table: Table | None = None
     separator: str = ","
     mornings: dict[int, list[int]] = field(default_factory=dict)
+    decimal: str = "."  # in numbers, as the table writes it
 
     @property
     def groups(self) -> tuple[Group, ...]:
@@ -71,11 +73,11 @@ class ProjectFile:
 
     def length(self, periods: int) -> str:
         """So many periods as the table writes lengths; their number where a period is what its column names."""
-        return self.table.scale.text(periods) if self.table is not None else f"{periods}"
+        return self.table.scale.text(periods).replace(".", self.decimal) if self.table is not None else f"{periods}"
 
     def after(self, time: int) -> str:
         """A time, where there are no dates."""
-        return self.table.scale.time(time) if self.table is not None else f"{time}"
+        return self.table.scale.time(time).replace(".", self.decimal) if self.table is not None else f"{time}"
 
     def is_own(self) -> bool:
         return self.table is None or self.table.scale.is_own()
@@ -179,14 +181,18 @@ def open_table(path: str, words: Settings, page: str | None = None) -> ProjectFi
         words = words.over(from_rows(read_page(read_bytes(page)).settings, os.path.dirname(page)))
     text = read_text(path)
     found = read_table(path, text, words, os.path.dirname(path))
-    sources = {"the table": path} | ({} if page is None else {"the page of names": page})
-    separator = read_sheet(path, text, is_head).separator
-    return of_table(path, found, sources, separator)
+    return of_table(path, found, {"the table": path} | ({} if page is None else {"the page of names": page}), text)
 
 
-def of_table(path: str, found: Table, sources: dict[str, str], separator: str) -> ProjectFile:
-    return ProjectFile(path, found.project, found.names, found.settings, found.calendar, sources, found, separator,
-                       found.mornings)
+def of_table(path: str, found: Table, sources: dict[str, str], text: str) -> ProjectFile:
+    """Dates and numbers are written as in the table."""
+    sheet = read_sheet(path, text, is_head)
+    cells = [one for row in [*sheet.above, *sheet.rows] for one in row]
+    if found.calendar is not None:
+        begin = found.calendar.begins(0)
+        found.calendar.style = style_of([*cells, found.settings.first or ""], found.settings.dates, begin)
+    return ProjectFile(path, found.project, found.names, found.settings, found.calendar, sources, found, sheet.separator,
+                       found.mornings, decimal_sign(cells))
 
 
 def open_text(path: str, data: bytes, words: Settings, page: str | None) -> ProjectFile:
@@ -226,8 +232,7 @@ def made_of(path: str, data: bytes, names: Names, told: Settings, words: Setting
         found = read_table(table, text, words, folder, told)
         if replace(found.project, goal=project.goal) != project:
             raise BadInput(f"{path} was made with another calendar; {advice}")
-    separator = read_sheet(table, text, is_head).separator
-    return of_table(path, replace(found, names=replace(found.names, source=names.source)), sources, separator)
+    return of_table(path, replace(found, names=replace(found.names, source=names.source)), sources, text)
 
 
 def is_answer(path: str) -> bool:

@@ -129,17 +129,15 @@ class Scale:
         return self.name() if self.is_named and self.own is Unit.PERIODS else self.own.value
 
     def text(self, periods: int) -> str:
-        """A length as the table writes it: in periods of its own; else in days, or where it has hours too in whole and half
-        days, hours and minutes."""
+        """A length as the table writes it: in periods of its own; else in days, or where it has hours too in hours. All lengths
+        of a table have one unit."""
         if self.is_own() or periods == 0:
             return f"{periods}"
         if self.period is not Unit.MINUTES:
             return f"{periods} {self.period.value[0]}"
-        for word, minutes in (("d", self.day), ("h", 60)):
-            value = Fraction(periods * self.minutes, minutes or 1)
-            is_short = abs(value) >= 1 and value.denominator <= 2
-            if minutes and (is_short or (minutes == self.day and not self.has_hours and 1000 % value.denominator == 0)):
-                return f"{number(value)} {word}"
+        for word, minutes in (("d", None if self.has_hours else self.day), ("h", 60)):
+            if minutes and 1000 % Fraction(self.minutes, minutes).denominator == 0:
+                return f"{number(Fraction(periods * self.minutes, minutes))} {word}"
         return f"{periods * self.minutes} min"
 
 

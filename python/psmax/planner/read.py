@@ -81,7 +81,7 @@ def read_activities(path: str, out: str | None, words: Settings) -> int:
     told = Settings() if there is None else from_rows(read_page(there).settings, os.path.dirname(named))
     words = words.over(told)
     found = read_table(path, text, words, os.path.dirname(path))
-    opened = of_table(path, found, {}, ",")
+    opened = of_table(path, found, {}, text)
     spelled = ProjectText(opened.project)
     names = found.names
     names.source, names.digest = source, hashlib.sha256(read_bytes(path)).hexdigest()

@@ -13,6 +13,8 @@ from .answer import Answer, feasible
 from .answer_text import read_answer
 from .beginning import Start, begin_with
 from .floats import total_float
+from .headline import Proved, headline
+from .headline import verdict as verdict_line
 from .page import Page, View, html
 from .project_file import ProjectFile
 from .verify import Verdict, verdict
@@ -40,6 +42,13 @@ def proof(answer: Answer, found: Verdict | None) -> str:
     return f"{told}{found.sentence()} {found.judges()} The record has {size:,} bytes and the SHA-256 {digest}."
 
 
+def headline_of(answer: Answer, found: Verdict | None, opened: ProjectFile) -> tuple[str, ...]:
+    """What is known of a schedule with the verdict on its record, if there is one."""
+    if found is None:
+        return (*verdict_line(opened, answer.starts, answer.starts[-1]),)
+    return (*headline(opened, Proved(answer.project.goal, answer.value, found.bound), answer.starts),)
+
+
 def report(opened: ProjectFile, given: str | None, start: Start, options: Options) -> int:
     inputs = {"the answer": given or STANDARD_INPUT} | ({} if options.record is None else {"the record": options.record})
     guard([options.out], opened.inputs() | start.inputs() | inputs)
@@ -53,7 +62,7 @@ def report(opened: ProjectFile, given: str | None, start: Start, options: Option
     clock.listen()
     total = total_float(begin_with(opened, start), answer.starts, Psprove(clock, opened.path), options.jobs)
     view = View(opened, answer.starts, proof(answer, found), found is not None and found.bound == answer.value,
-                windows(opened.project, answer.starts, psmax), total)
+                windows(opened.project, answer.starts, psmax), total, headline=headline_of(answer, found, opened))
     write_whole(options.out, page_of(view, options.paper))
     return 3 if total.open() else 0
 

@@ -15,6 +15,7 @@ from urllib.parse import parse_qs
 from ..errors import BadInput, Failed
 from .faults import explained
 from .page import Page
+from .headline import headline
 from .plans import Plan
 from .screen import Screen
 
@@ -36,7 +37,7 @@ def state(screen: Screen, zoom: float) -> bytes:
     with screen.changed:
         plan, latest, faults = screen.plans.get(screen.shown), screen.plans.get(screen.latest), screen.faults
         told: dict[str, Any] = {"version": screen.version, "open": screen.is_open, "shown": screen.shown}
-        plans = [[number, f"{one.at}  {one.first_line()}"] for number, one in screen.plans.items() if one.is_known()]
+        plans = [[number, f"{one.at}  {line_of(one)}"] for number, one in screen.plans.items() if one.is_known()]
     told |= {
         "plans": plans[::-1], "line": said(plan, latest), "busy": latest is not None and latest.stage != "",
         "faults": [*faults, *(() if latest is None else latest.trouble)],
@@ -53,7 +54,11 @@ def said(plan: Plan | None, latest: Plan | None) -> str:
         return "Nothing is planned yet."
     does = {"searching": ". The search goes on.", "floats": ". Total floats are being proved.", "": "."}[latest.stage]
     stays = "" if plan is None or latest is plan else f" The plan of {plan.at} stays until there is one."
-    return f"{latest.at}  {latest.first_line()}{does}{stays}"
+    return f"{latest.at}  {line_of(latest)}{does}{stays}"
+
+
+def line_of(plan: Plan) -> str:
+    return headline(plan.opened, plan, plan.starts)[0]
 
 
 @lru_cache(4)

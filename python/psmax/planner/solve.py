@@ -18,6 +18,7 @@ from ..search import search
 from . import cubes, drawing, svg
 from .answer_file import AnswerFile, activities_of
 from .beginning import Start, begin_with
+from .headline import headline
 from .project_file import ProjectFile
 from .read_back import first_line
 from .verify import RECORD
@@ -71,18 +72,22 @@ def solve(opened: ProjectFile, start: Start, options: Options) -> int:
 
 
 def give(known: Incumbent, opened: ProjectFile, options: Options, kept: AnswerFile | None) -> None:
-    """Prints what is known, and writes what was asked for. A schedule that can't be written is printed."""
-    plain = known.answer().decode()
+    """Prints what is known, and writes what was asked for. A schedule that can't be written is printed, in the lines of psmax,
+    which have no room for dates; so these are told."""
+    plain, lines = known.answer().decode(), headline(opened, known, known.starts)
+    is_plain = True
     try:
         if kept is not None and kept.put(known):
-            plain = known.first_line() + "\n"
+            plain, is_plain = "\n".join(lines) + "\n", False
     finally:
+        for line in lines if (is_plain or options.json) and lines != [known.first_line()] else ():
+            tell(known.clock, line)
         sys.stdout.write(as_json(known, opened) if options.json else plain)
         sys.stdout.flush()
     if options.record is not None and known.record:
         write_whole(options.record, known.record)
     if options.svg is not None and known.starts is not None:
-        write_whole(options.svg, svg.draw(drawing.make(opened, known.starts, known.first_line())).encode())
+        write_whole(options.svg, svg.draw(drawing.make(opened, known.starts, lines[0], tuple(lines[1:]))).encode())
 
 
 def as_json(known: Incumbent, opened: ProjectFile) -> str:

@@ -146,6 +146,7 @@ class Reading:
         arcs, broken = without_history(lags.arcs, progress, lags.dated)
         called = {number: name for name, number in self.names.items()}
         project, names = self.project((*arcs, *progress.arcs(len(self.rows))), due, called)
+        names.ids = {number: row.cell(Column.ID) for number, row in enumerate(self.rows, 1) if row.cell(Column.ID)}
         project = replace(project, dated=tuple(one for one in lags.dated if one.arc in arcs))
         notes = [*self.said_of_period(), *self.terms.rounded, *(said_of_history(arc, called) for arc in broken)]
         found = tuple(groups(self.named, self.depth, [place in self.groups for place in range(len(self.named))]))

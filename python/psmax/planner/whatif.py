@@ -8,6 +8,7 @@ from ..psprove import Psprove
 from ..whatif import Change, ChangeKind, Outcome
 from ..whatif import whatif as searched
 from .csv_text import Text
+from .headline import headline
 from .project_file import ProjectFile
 from .beginning import Start, begin_with
 from .wording import Words, are
@@ -52,8 +53,9 @@ def text(base: Incumbent, outcomes: list[Outcome], words: Words) -> list[str]:
               and (base.value is None or one.known.value < base.value)]
     late = [one for one in outcomes if not one.known.was_asked]
     may = [one for one in outcomes if one not in better and one not in late and not one.known.settled]
-    told = [f"As it is: {base.first_line()}."]
-    told += [f"  {one.known.first_line()}: {change_text(one.change, words)}" for one in [*better, *may]]
+    told = [f"As it is: {headline(words.opened, base, base.starts)[0]}."]
+    told += [f"  {headline(words.opened, one.known, one.known.starts)[0]}: {change_text(one.change, words)}"
+             for one in [*better, *may]]
     others = len(outcomes) - len(better) - len(may) - len(late)
     if others:
         less = "shorter than" if base.goal is Goal.MAKESPAN else "of a lateness below"

@@ -43,7 +43,8 @@ class Words:
             return self.opened.length(periods)
         unit = self.opened.names.unit or "periods"
         if " " in unit:
-            return f"{periods} times {unit}"
+            count, unit = unit.split(" ", 1)
+            periods *= int(count)
         return f"{periods} {unit[:-1] if periods == 1 and unit.endswith('s') else unit}"
 
     def lag(self, arc: Arc, verb: str = "starts") -> str:

@@ -16,6 +16,7 @@ from ..psmax import Psmax
 from . import icalendar
 from .answer import feasible
 from .answer_text import PERIOD, read_answer
+from .headline import MISSED, verdict
 from .csv_text import SEPARATORS, Text, read_sheet, write_sheet
 from .project_file import ProjectFile
 
@@ -61,13 +62,24 @@ def rows(opened: ProjectFile, starts: tuple[int, ...], with_dates: bool = True) 
     project, calendar = opened.project, opened.calendar if with_dates else None
     units = [] if opened.is_own() else [PERIOD, "length"]
     table: list[list[object]] = [[*HEADS, *units, *(calendar.heads if calendar else ())]]
-    for activity in sorted(range(1, project.end), key=lambda i: (starts[i], i)):
+    for activity in in_order(opened, starts):
         begins, takes = starts[activity], project.durations[activity]
         times = opened.times(activity, begins) if calendar else ()
         name = Text(opened.names.activities.get(activity, ""))
         told = [opened.names.unit, opened.length(takes)] if units else []
-        table.append([activity, name, begins, takes, begins + takes, *told, *times])
+        table.append([label_of(opened, activity), name, begins, takes, begins + takes, *told, *times])
     return table
+
+
+def in_order(opened: ProjectFile, starts: tuple[int, ...]) -> list[int]:
+    """The activities in the order of their starts."""
+    return sorted(range(1, opened.project.end), key=lambda i: (starts[i], i))
+
+
+def label_of(opened: ProjectFile, activity: int) -> object:
+    """The ID of an activity, which a spreadsheet must not take for something else, or its number."""
+    label = opened.names.label(activity)
+    return int(label) if label.isascii() and label.isdecimal() and not label.startswith("0") else Text(label)
 
 
 def put(text: str, out: str | None) -> None:
@@ -85,6 +97,10 @@ def write(opened: ProjectFile, given: str | None, sheet: Sheet, resource: str | 
     if resource is not None and suffix != icalendar.SUFFIX:
         raise BadInput(f"--resource is for a calendar, which --out names with {icalendar.SUFFIX}")
     known = feasible(opened, read_answer(given), Psmax(Clock(), opened.path))
+    said = verdict(opened, known.starts, known.starts[-1])
+    is_told = opened.calendar is not None or bool(said[1:])
+    if is_told and sheet.out is not None or said[1:] and said[1].startswith(MISSED):
+        print(*said, sep="\n", file=sys.stderr if sheet.out is None else sys.stdout)
     if suffix == icalendar.SUFFIX:
         must_be_like(sheet.out, icalendar.BEGIN, "calendar")
         put(icalendar.calendar_text(opened, known.starts, resource, datetime.datetime.now(datetime.UTC)), sheet.out)
