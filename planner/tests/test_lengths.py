@@ -127,8 +127,8 @@ class Lengths(InFolder):
             "2,mend,12,16,28,hours,16 h,2026-03-03 13:00,2026-03-05 12:00",
             "3,close,28,4,32,hours,4 h,2026-03-05 13:00,2026-03-05 17:00"])
         self.assertIn("(a column is 2 h)\n", plan("gantt", table, answer, "--width", "20").stdout)
-        self.assertEqual(plan("why", table, "--within", "31").stdout.splitlines()[-2],
-                         "  Allow the project to end 1 h later, or let 3 (close) start 1 h sooner after 2 (mend).")
+        self.assertEqual(plan("why", table, "--within", "31").stdout.splitlines()[-1],
+                         "Allow the project to end 1 h later, which is enough, and less is not.")
         page = self.folder / "a.html"
         self.assertEqual(plan("report", table, answer, "--out", page).returncode, 0)
         for told in ("<b>32 h</b>of work", '<td data-key="12">12 h</td>', '<td data-key="8">8 h</td>'):

@@ -87,9 +87,8 @@ class Following(Watches):
         watch = self.watching(text)
         watch.until(done("optimal 7"))
         state = watch.saved(f"{text},,,start of a,2\n", done("no schedule"))
-        [sentence] = state["why"]
-        self.assertTrue(sentence.startswith("These lags contradict each other: 2 (b) starts no sooner than 1 (a) "), sentence)
-        self.assertIn("Together they ask for 1 day more than there is. Allow 2 (b) to start 1 day later", sentence)
+        self.assertEqual(state["why"], plan("why", watch.table).stdout.splitlines())
+        self.assertIn("  Allow 2 (b) to start 1 day later, which is enough, and less is not: ", "\n".join(state["why"]))
         self.assertEqual(state["parts"]["arrows"].count(" circle"), 2)
         state = watch.saved("activity,days,crane (1),after\na,3,1,\nb,4,1,with a\n", lambda state: "crane" in f"{state['why']}")
         told = "; ".join(state["why"])

@@ -93,12 +93,12 @@ class InBrowser(Watches):
         self.assertEqual(self.text("faults"), "")
 
     def test_no_schedule(self) -> None:
-        """The circle is drawn, and said in a sentence with what would help; and is gone with the next good save."""
+        """The circle is drawn, and said with what would help; and is gone with the next good save."""
         text = "activity,days,crane (1),after,at most\na,3,1,,\nb,4,1,a,\n"
         watch = self.opened(text)
         self.done("optimal 7")
         watch.table.write_text(f"{text},,,start of a,2\n")
-        self.until_text("why", "Together they ask for 1 day more than there is. Allow 2 (b) to start 1 day later")
+        self.until_text("why", "Allow 2 (b) to start 1 day later, which is enough")
         drawn = """return [...document.querySelectorAll(".lag.circle")]
             .filter((one) => getComputedStyle(one).display !== "none").length"""
         self.assertEqual(self.run_script(drawn), 2)

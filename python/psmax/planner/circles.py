@@ -1,7 +1,7 @@
 """Lags that contradict each other: circles around which they add up to more than 0."""
 from collections.abc import Iterator
 
-from ..project import Arc, Goal, Project, lags_only
+from ..project import Arc, Project, lags_only
 from ..psmax import Psmax
 from .wording import Words
 
@@ -24,9 +24,8 @@ def in_words(circle: list[Arc], words: Words) -> list[str]:
     circle = as_read(circle)
     over = sum(arc.lag for arc in circle)
     lead = "These lags contradict each other:" if len(circle) > 1 else "This lag contradicts itself:"
-    return [lead, *(f"  {words.lag(arc)}" for arc in circle),
-            f"  Together they ask for {words.many(over)} more than there {'is' if over == 1 else 'are'}.",
-            f"  {change(circle, over, words)}"]
+    return [lead, *(f"  {words.lag(arc)}{words.origin(arc)}" for arc in circle),
+            f"  Together they ask for {words.many(over)} more than there {'is' if over == 1 else 'are'}."]
 
 
 def as_read(circle: list[Arc]) -> list[Arc]:
@@ -34,28 +33,6 @@ def as_read(circle: list[Arc]) -> list[Arc]:
     places = range(len(circle))
     first = min(places, key=lambda place: (circle[place].tail != 0, circle[place].lag < 0, circle[place - 1].lag >= 0))
     return circle[first:] + circle[:first]
-
-
-def change(circle: list[Arc], over: int, words: Words) -> str:
-    """What would help, in a sentence: each maximum lag so much longer, or the longest minimum lag so much shorter."""
-    many, end = words.many(over), words.project.end
-    ways = [allowed(arc, many, words) for arc in circle if arc.lag < 0 or arc.head == 0]
-    if not ways:
-        ways.append("Let one of them go, since each waits for the others")
-    longest = max((arc for arc in circle if arc.head not in (0, end)), key=lambda arc: arc.lag, default=None)
-    if longest is not None and longest.lag >= over:
-        after = f" after {words.names.activity(longest.tail)}" if longest.tail else ""
-        ways.append(f"let {words.names.activity(longest.head)} start {many} sooner{after}")
-    return ", or ".join(ways) + "."
-
-
-def allowed(arc: Arc, many: str, words: Words) -> str:
-    """A maximum lag, and so much more."""
-    if arc.tail == words.project.end:
-        return f"Allow {'a lateness of' if words.project.goal is Goal.LATENESS else 'the project to end'} {many} " + (
-            "more" if words.project.goal is Goal.LATENESS else "later")
-    verb = "end" if arc.head == 0 else "start"
-    return f"Allow {words.names.activity(arc.tail)} to {verb} {many} later"
 
 
 def positive_cycle(arcs: list[tuple[int, int, int]], count: int) -> list[tuple[int, int, int]]:

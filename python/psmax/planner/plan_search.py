@@ -88,17 +88,16 @@ class PlanSearch(threading.Thread):
         return known
 
     def explain(self) -> None:
-        """Why there is no schedule: by a circle of lags where there is one."""
-        clock, words = self.new_clock(), Words(self.opened)
+        """Why there is no schedule, as `plan why` says it; before that a circle of lags, where there is one, since it is found
+        at once."""
+        clock, words = self.new_clock(), Words(self.opened, self.beginning.frozen)
         circle = next(circles(self.beginning.project, Psmax(clock, self.opened.path)), list[Arc]())
         if circle:
-            lead, *lags, together, change = in_words(circle, words)
-            text = f"{lead} {'; '.join(map(str.strip, lags))}. {together.strip()} {change.strip()}"
-            return self.learn(circle=(*circle,), why=(text,))
+            self.learn(circle=(*circle,), why=(*in_words(circle, words),))
         lines: list[str] = []
         causes = Causes(self.opened, self.beginning.project, clock, self.limits.jobs, None, lines.append)
         causes.tell_all(None)
-        self.learn(circle=(*causes.arcs,), why=(*lines,))
+        self.learn(circle=(*dict.fromkeys(causes.arcs),), why=(*lines,))
 
     def float(self, starts: tuple[int, ...]) -> None:
         """The free floats, by psmax, and then the total floats, which take longer. Their proofs aren't kept."""

@@ -35,6 +35,7 @@ class Table:
     mornings: dict[int, list[int]]  # times at which a date says that an activity without duration may be, by activity
     progress: Progress
     scale: Scale
+    rows: tuple[int, ...]  # in which the activities stand, as a spreadsheet numbers them
     notes: tuple[str, ...]  # what is to be said of it before anything is done with it
 
 
@@ -151,7 +152,7 @@ class Reading:
         notes = [*self.said_of_period(), *self.terms.rounded, *(said_of_history(arc, called) for arc in broken)]
         found = tuple(groups(self.named, self.depth, [place in self.groups for place in range(len(self.named))]))
         return Table(project, names, self.settings, self.terms.calendar, found, lags.activities.mornings, progress,
-                     self.terms.scale, tuple(notes))
+                     self.terms.scale, tuple(row.number for row in self.rows), tuple(notes))
 
     def part(self) -> None:
         """What is an activity, and what a group."""

@@ -1,7 +1,7 @@
 """`plan why`: why a project has no schedule, or none that ends in time. psprove proves each cause."""
 import os
 from collections.abc import Callable
-from dataclasses import dataclass, field
+from dataclasses import dataclass, field, replace
 
 from ..clock import Clock, tell
 from ..errors import BadInput, TimeUp
@@ -68,11 +68,11 @@ class Causes:
                  say: Callable[[str], object] = print) -> None:
         self.say, self.arcs = say, list[Arc]()
         self.psmax, self.psprove, self.jobs = Psmax(clock, opened.path), Psprove(clock, opened.path), jobs
-        self.words = Words(opened)
+        self.words = Words(opened, project.arcs[len(opened.project.arcs) :])
         limited = project if deadline is None else within(project, deadline)
         if limited is None:
             raise BadInput(f"a deadline of {deadline} has no room in {opened.path}; it is from 0 to {MOST_UNITS:,}")
-        self.project = limited
+        self.project, self.deadline = limited, deadline
         self.fixed = {Part(Kind.LAG, place) for place in range(opened.changeable(), len(limited.arcs))}
         self.late = "" if deadline is None else f" that ends by {deadline}"
         if deadline is not None and project.goal is Goal.LATENESS:
@@ -104,6 +104,7 @@ class Causes:
                 self.say(line)
         if not needy:
             self.lags_that_open([part.number for part in found.parts() if part.kind is Kind.LAG])
+            self.later_end()
         return 0
 
     def limits(self, conflicts: int | None) -> Limits:
@@ -147,8 +148,18 @@ class Causes:
             least, is_least = self.least_enough(place, answer.starts)
             also = "less is not" if is_least else "whether less is, is not known"
             enough = self.words.greatest(arc._replace(lag=-least))
-            self.say(f"  This is enough in its place, and {also}: {enough}.")
+            self.say(f"  {self.words.allowed(arc, least + arc.lag)}, which is enough, and {also}: {enough}.")
         return answer
+
+    def later_end(self) -> None:
+        """How much later the project ends at the soonest, where it is asked why it doesn't end by a deadline."""
+        if self.deadline is None:
+            return
+        answer = self.ask(replace(self.project, arcs=self.project.arcs[:-1]))
+        if answer.value is not None:
+            also = "less is not" if answer.settled else "whether less is, is not known"
+            more = self.words.allowed(self.project.arcs[-1], answer.value - self.deadline)
+            self.say(f"{more}, which is enough, and {also}.")
 
     def ask(self, project: Project) -> Solved:
         return self.psprove.ask(project, self.limits(CONFLICTS))

@@ -1,6 +1,6 @@
 """Lags, absences and violations in a planner's words: from the end of an activity, where a lag counts from there, and by dates,
 where there is a calendar."""
-from collections.abc import Sequence
+from collections.abc import Collection, Sequence
 
 from ..dated import DatedLag
 from ..project import Absence, Arc, Goal
@@ -9,12 +9,14 @@ from .project_file import ProjectFile
 
 
 class Words:
-    """Speaks of a project by its names."""
+    """Speaks of a project by its names. `kept` are arcs by which what has started before a day stays."""
 
-    def __init__(self, opened: ProjectFile) -> None:
+    def __init__(self, opened: ProjectFile, kept: Sequence[Arc] = ()) -> None:
         self.opened = opened
         self.project = opened.project
         self.names = opened.names.with_dummies(opened.project.end)
+        self.kept, self.now = {*kept}, {*opened.project.arcs[opened.changeable() :]}
+        self.written = {*opened.project.arcs[: opened.changeable()]}
         self.dated = {one.arc: one for one in opened.project.dated}
 
     def time(self, time: int) -> str:
@@ -59,6 +61,31 @@ class Words:
         if arc.tail == 0:
             return f"{name} {verb} {on(self.opened.times(arc.head, arc.lag)[0])} or later"
         return f"{name} {verb} {self.distance('at least', arc.lag, arc.tail)}"
+
+    def origin(self, arc: Arc) -> str:
+        """Where a start comes from that no row has as a lag or a date: behind a comma, and else empty."""
+        activity = arc.head or arc.tail
+        if arc in self.kept:
+            return ", since it stays as in the old plan" if activity in self.started(self.kept) else ", since that day is over"
+        if arc not in self.now or arc in self.written:
+            return ""
+        table = self.opened.table
+        row = f"row {table.rows[activity - 1]}" if table is not None else "the table"
+        if activity in self.opened.progress.started:
+            return f", since it has started, as {row} says"
+        return f", since the status date is {self.time(self.opened.progress.now or 0)}"
+
+    def started(self, arcs: Collection[Arc]) -> set[int]:
+        """What has a start that stays: with an arc to the start of the project."""
+        return {arc.tail for arc in arcs if not arc.head}
+
+    def allowed(self, arc: Arc, periods: int) -> str:
+        """A maximum lag, and so much more."""
+        if arc.tail == self.project.end and self.project.goal is Goal.LATENESS:
+            return f"Allow a lateness of {self.many(periods)} more"
+        if arc.tail == self.project.end:
+            return f"Allow the project to end {self.many(periods)} later"
+        return f"Allow {self.names.activity(arc.tail)} to {'start' if arc.head else 'end'} {self.many(periods)} later"
 
     def calendar_lag(self, one: DatedLag, verb: str) -> str:
         limit, first = "at least" if one.is_least else "at most", self.names.activity(one.first)
