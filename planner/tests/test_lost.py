@@ -112,14 +112,11 @@ class Results(InFolder):
         self.assertEqual(best.read_bytes(), short.read_bytes())
 
     def test_what_is_no_schedule_of_this_project(self) -> None:
-        """The answer of another project stays, of this one before its table was changed, and any other file."""
-        self.assertEqual(plan("read", self.file("w.csv", TABLE)).returncode, 0)
-        old = self.folder / "old.csv"
-        self.assertEqual(plan("solve", self.folder / "w.sch", "--out", old).returncode, 0)
-        self.assertEqual(plan("read", self.file("w.csv", TABLE + "c,1,1\n")).returncode, 0)
-        told = "is no schedule of"
-        ran = plan("solve", self.folder / "w.sch", "--out", old)
-        self.refused(ran, 2, f"old.csv {told}", "name another file with --out", "no start for activity 3 (c)", faults=2)
+        """The answer of another project stays, and any other file."""
+        old, told = self.folder / "old.csv", "is no schedule of"
+        self.assertEqual(plan("solve", self.file("w.csv", TABLE), "--out", old).returncode, 0)
+        other = self.file("v.csv", "activity,days\none,1\ntwo,1\nthree,1\n")
+        self.refused(plan("solve", other, "--out", old), 2, f"old.csv {told}", "name another file with --out", faults=6)
         for text in (old.read_text(), "optimal 2\n0 0\n1 2\n", "my own words\n", TABLE, TWO_JOBS, "record 1\n"):
             there = self.file("there", text)
             ran = plan("solve", INPUTS / "three-jobs-lags.sch", "--out", there)

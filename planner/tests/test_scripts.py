@@ -16,7 +16,7 @@ from psmax import __version__
 
 from .helpers import CALLED, EXAMPLES, INPUTS, PLAN, PROJECTS, PSPROVE, TOP, TWO_JOBS, InFolder, plan, psmax, started
 
-HEADS = "project,activities,status,makespan,bound,seconds,conflicts,limit,plan,psprove,fault\n"
+HEADS = "project,activities,status,makespan,ends,bound,seconds,conflicts,limit,plan,psprove,fault\n"
 
 
 class Json(InFolder):
@@ -29,7 +29,7 @@ class Json(InFolder):
 
     def test_by_hand(self) -> None:
         told = self.told(INPUTS / "two-jobs.sch")
-        self.assertEqual([*told], ["bound", "makespan", "starts", "status", "names", "durations", "period", "conflicts",
+        self.assertEqual([*told], ["bound", "makespan", "starts", "ends", "status", "names", "durations", "period", "conflicts",
                                    "seconds", "versions"])
         self.assertEqual([told[key] for key in ("bound", "makespan", "status", "durations")], [7, 7, "optimal", [3, 4]])
         self.assertGreater(told["seconds"], 0)
@@ -78,8 +78,9 @@ class Batch(InFolder):
 
     def test_going_on(self) -> None:
         """Rows that are there stay as they are; a fault is tried again, and told."""
-        row = "two-jobs.sch,2,feasible,9,7,1.0,5,1,0,0,\n"
-        self.file("all.csv", HEADS + row + "UPPER.SCH,,fault,,,,,1,,,psmax was ended by signal 9\n")
+        row = "two-jobs.sch,2,feasible,9,,7,1.0,5,1,0,0,\n"
+        before = HEADS.replace("ends,", "") + row.replace("9,,7", "9,7")  # as plan 1.0 wrote it
+        self.file("all.csv", before + "UPPER.SCH,,fault,,,,,1,,,psmax was ended by signal 9\n")
         self.file("bad.sch", "x")
         ran = plan("batch", self.folder, "--seconds", "20", "--csv", self.csv)
         self.assertEqual(ran.returncode, 1, ran.stderr)
@@ -130,7 +131,7 @@ class Batch(InFolder):
         self.assertEqual(plan("batch", "--join", *parts, parts[0], "--csv", self.csv).returncode, 0)
         self.assertEqual(self.csv.read_text(), ran.stdout)
         self.refused(plan("batch", "--join", *parts, "--csv", parts[0]), 2, "which would be lost")
-        self.file("all.csv", HEADS + "more.sch,2,feasible,9,7,1.0,5,1,0,0,\n")
+        self.file("all.csv", HEADS + "more.sch,2,feasible,9,,7,1.0,5,1,0,0,\n")
         self.refused(plan("batch", "--join", *parts, "--csv", self.csv), 2, "all.csv has a row for more.sch, which would be")
         other = self.file("other.csv", parts[0].read_text().replace("optimal,7", "optimal,8"))
         self.refused(plan("batch", "--join", *parts, other), 2, "other.csv: a second row for UPPER.SCH")
@@ -159,7 +160,8 @@ class Batch(InFolder):
         self.refused(plan("batch"), 2, "either a FOLDER, or --join")
         self.refused(plan("batch", self.folder, "--join", "a"), 2, "either a FOLDER, or --join")
         self.refused(plan("batch", self.folder / "gone"), 1, "it is no folder")
-        self.refused(plan("batch", self.folder, "--out", self.folder / "gone"), 1, "gone: it is no folder")
+        there = self.file("there", "my own words\n")
+        self.refused(plan("batch", self.folder, "--out", there), 1, "there: it is no folder")
         self.refused(plan("batch", self.folder, "--part", "3/2"), 2, "'3/2' is not a part such as 1/4")
         self.refused(plan("batch", self.folder, "--csv", self.file("t.csv", "a,b\n")), 2, "not a table of `plan batch`")
         (self.folder / "none").mkdir()

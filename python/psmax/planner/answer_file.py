@@ -1,14 +1,17 @@
-"""The file that `plan solve --out` keeps: it gets each shorter schedule, and never a longer one of the same project."""
+"""The file that `plan solve --out` keeps: it gets each shorter schedule, and never a longer one of the same project. A plan of
+the project before it was changed is kept beside it, under a name with its time."""
+import datetime
 import json
 import os
+from itertools import chain, count
 
 from ..clock import Clock, tell
 from ..errors import BadInput, Failed
-from ..files import read_bytes, write_whole
+from ..files import read_bytes, write_new, write_whole
 from ..incumbent import Incumbent
 from ..psmax import Psmax
-from .answer import Answer, feasible
-from .answer_text import answer_of
+from .answer import Answer, counted, feasible, tie
+from .answer_text import AnswerText, answer_of
 from .csv_text import write_sheet
 from .project_file import ProjectFile
 from .write import rows
@@ -22,6 +25,7 @@ class AnswerFile:
         self.opened = opened
         self.written: bytes | None = None  # what it holds, as far as is known
         self.there: Answer | None = None  # the schedule that it holds, if another put it there
+        self.before: AnswerText | None = None  # the plan of the project before it was changed, if it holds that
 
     def look(self) -> Answer | None:
         """The schedule of this project that the file holds; psmax finds it feasible."""
@@ -32,13 +36,15 @@ class AnswerFile:
         return self.there if data is not None else None
 
     def schedule_in(self, data: bytes) -> Answer | None:
-        """What holds no starts may go, but neither what is no answer nor the starts of another project, or of this one
-        before it was changed."""
+        """What holds no starts may go, but neither what is no answer nor the starts of another project."""
         if not data.strip() or data.startswith(WITHOUT_STARTS):
             return None
         try:
             return feasible(self.opened, answer_of(data, self.path), Psmax(Clock(), self.opened.path))
         except BadInput as fault:
+            self.before = before_change(self.opened, data, self.path)
+            if self.before is not None:
+                return None
             told = f"{self.path} is no schedule of {self.opened.path}, and would be lost; name another file with --out"
             raise BadInput(told, *fault.args) from None
 
@@ -52,9 +58,21 @@ class AnswerFile:
             return False
         data = answer_text(known, self.opened, self.path.lower().endswith(".csv"))
         if data != self.written:
+            self.keep_before(known.clock)
             write_whole(self.path, data)
         self.written, self.there = data, None
         return True
+
+    def keep_before(self, clock: Clock) -> None:
+        """The plan of the project before it was changed gets a name of its own."""
+        if self.before is None or self.written is None:
+            return
+        stem, suffix = os.path.splitext(self.path)
+        time = f"{datetime.datetime.fromtimestamp(os.stat(self.path).st_mtime):%Y-%m-%d-%H%M%S}"
+        names = (f"{stem}-{time}{more}{suffix}" for more in chain([""], (f"-{again}" for again in count(1))))
+        name = next(name for name in names if write_new({name: self.written or b""}))
+        tell(clock, f"{self.path} as it was is kept as {name}")
+        self.before = None
 
     def put_if_possible(self, known: Incumbent) -> None:
         """The same while the search goes on; where it fails, that is told, and is tried again at the end."""
@@ -62,6 +80,16 @@ class AnswerFile:
             self.put(known)
         except (BadInput, Failed) as fault:
             tell(known.clock, f"{fault.args[0]}")
+
+
+def before_change(opened: ProjectFile, data: bytes, path: str) -> AnswerText | None:
+    """A plan whose activities are for the most part those of the project, by their names; none for anything else."""
+    try:
+        given = answer_of(data, path).must_have_starts()
+        tied = tie(opened, counted(opened, given))
+    except BadInput:
+        return None
+    return given if given.names and 2 * len(tied.pairs) >= len(given.names) else None
 
 
 def answer_text(known: Incumbent, opened: ProjectFile, as_table: bool) -> bytes:

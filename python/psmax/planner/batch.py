@@ -82,9 +82,10 @@ class Task:
 def batch(wanted: Batch) -> int:
     tasks = chosen(wanted)
     guard([wanted.csv], {f"the project {task.row}": str(task.path) for task in tasks})
-    for folder in (wanted.out, wanted.record):
-        if folder is not None and not os.path.isdir(folder):
+    for folder in filter(None, (wanted.out, wanted.record)):
+        if os.path.exists(folder) and not os.path.isdir(folder):
             raise Failed(f"cannot write into {folder}: it is no folder")
+        os.makedirs(folder, exist_ok=True)
     published = {} if wanted.known is None else read_published(wanted.known)
     done = read_rows(wanted.csv) if wanted.csv is not None and os.path.exists(wanted.csv) else {}
     left = [task for task in tasks if done.get(task.row, {}).get("status", FAULT) == FAULT]
@@ -167,7 +168,7 @@ def row_of(task: Task, wanted: Batch, clock: Clock) -> Row | None:
         faults = [line.removeprefix("plan: ") for line in out_of_it[1].splitlines() if line.startswith("plan: ")]
         return row | {"status": FAULT, "fault": "; ".join(faults) or f"exit status {child.returncode}"}
     told = json.loads(out_of_it[0])
-    heads = "status", "makespan", "bound", "seconds", "conflicts"
+    heads = "status", "makespan", "ends", "bound", "seconds", "conflicts"
     known = {head: f"{told[head]}" for head in heads if told[head] is not None}
     return row | known | {"activities": f"{len(told['durations'])}", "plan": told["versions"]["plan"],
                           "psprove": told["versions"]["psprove"]}

@@ -11,7 +11,9 @@ from ..letters import short
 from .csv_text import cell, read_sheet, write_sheet
 from .write import put
 
-HEADS = ["project", "activities", "status", "makespan", "bound", "seconds", "conflicts", "limit", "plan", "psprove", "fault"]
+HEADS = ["project", "activities", "status", "makespan", "ends", "bound", "seconds", "conflicts", "limit", "plan", "psprove",
+         "fault"]
+WITHOUT_ENDS = [head for head in HEADS if head != "ends"]  # of plan 1.0 and before
 PUBLISHED_HEADS = ("project", "lower", "upper")
 FAULT = "fault"  # the status of a project that could not be searched
 
@@ -34,9 +36,10 @@ def table(rows: Rows) -> str:
 
 def read_rows(path: str) -> Rows:
     sheet = read_sheet(path, read_text(path))
-    if sheet.heads != HEADS:
+    if sheet.heads not in (HEADS, WITHOUT_ENDS):
         raise BadInput(f"{path}: not a table of `plan batch`")
-    rows = [dict(zip(HEADS, [cell(row, column) for column in range(len(HEADS))])) for _, row in sheet.numbered()]
+    places = {head: sheet.heads.index(head) for head in HEADS if head in sheet.heads}
+    rows = [{head: cell(row, places.get(head)) for head in HEADS} for _, row in sheet.numbered()]
     return {row["project"]: row for row in rows}
 
 

@@ -70,6 +70,18 @@ def begin_near(opened: ProjectFile, given: AnswerText, day: str | None) -> Begin
     return from_old(opened, given, tied, frozen(opened, tied, day), day)
 
 
+def go_on(opened: ProjectFile, given: AnswerText) -> Beginning:
+    """From a plan of the project before it was changed: what of it still holds, and what does not, is told."""
+    found, count = begin_near(opened, given, None), opened.project.end - 1
+    there = len(tie(opened, counted(opened, given)).pairs)
+    told = [f"{given.called} is a plan of {opened.path} before it was changed: the search begins near to it, with {there} of "
+            f"{count} activities"]
+    if opened.progress.now is None:
+        told.append("what has started by a day stays with a status date in the table, or with "
+                    f"--start {given.called} --frozen DAY and another --out")
+    return replace(found, told=[*told, *found.told])
+
+
 def frozen(opened: ProjectFile, tied: Tied, day: str) -> Progress:
     """What starts before the day in the old schedule has started there."""
     now = opened.time(day, "--frozen")

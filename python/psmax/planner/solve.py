@@ -17,7 +17,7 @@ from ..psprove import Psprove
 from ..search import search
 from . import cubes, drawing, svg
 from .answer_file import AnswerFile, activities_of
-from .beginning import Start, begin_with
+from .beginning import Start, begin_with, go_on
 from .headline import headline
 from .project_file import ProjectFile
 from .read_back import first_line
@@ -42,9 +42,10 @@ def solve(opened: ProjectFile, start: Start, options: Options) -> int:
     must_be_like(options.record, RECORD, "record")
     must_be_like(options.svg, svg.BEGIN, "picture")
     kept = None if options.out is None else AnswerFile(options.out, opened)
-    beginning = begin_with(opened, start)
-    schedules = list(beginning.schedules)
     there = kept.look() if kept is not None else None
+    before = None if kept is None or start.answer is not None else kept.before
+    beginning = begin_with(opened, start) if before is None else go_on(opened, before)
+    schedules = list(beginning.schedules)
     if kept is not None and there is not None:
         beginning.must_keep(there, kept.path)
         schedules.append((there.starts, kept.path))
@@ -62,7 +63,8 @@ def solve(opened: ProjectFile, start: Start, options: Options) -> int:
             cubes.search(beginning, known, options.places)
         else:
             psprove = Psprove(clock, opened.path)
-            search(beginning.project, psprove, known, options.jobs, beginning.repairs, start.answer or "")
+            called = start.answer or (before.called if before is not None else "")
+            search(beginning.project, psprove, known, options.jobs, beginning.repairs, called)
     except Failed:
         if known.starts is not None:
             give(known, opened, options, kept)
@@ -99,6 +101,7 @@ def as_json(known: Incumbent, opened: ProjectFile) -> str:
         "bound": known.bound,
         "makespan": None if starts is None else starts[-1],
         "starts": starts,
+        "ends": ends(opened, known.starts),
         "status": known.status(),
         **lateness,
         **activities_of(opened),
@@ -107,6 +110,15 @@ def as_json(known: Incumbent, opened: ProjectFile) -> str:
         "versions": versions(),
     }
     return json.dumps(told) + "\n"
+
+
+def ends(opened: ProjectFile, starts: tuple[int, ...] | None) -> str | None:
+    """The date at which the last activity ends, as 2026-03-02 or with its hour; none where there are no dates."""
+    if starts is None or opened.calendar is None:
+        return None
+    last = max([0, *opened.project.ends(starts)])
+    at = opened.calendar.span(last - 1, last)[1] if last else opened.calendar.begins(0)
+    return at.date().isoformat() if opened.calendar.is_by_day else at.isoformat(" ", "minutes")
 
 
 def versions() -> dict[str, str]:
