@@ -10,11 +10,14 @@ import pathlib
 import sys
 import threading
 import time
+import types
 from collections.abc import Iterator
 from itertools import combinations
 from typing import Any
 
-sys.path.insert(0, str(pathlib.Path(__file__).resolve().parents[2] / "python"))
+# The package without its own module, which imports all of it: a test starts this a hundred times.
+sys.modules["psmax"] = types.ModuleType("psmax")
+sys.modules["psmax"].__path__ = [str(pathlib.Path(__file__).resolve().parents[2] / "python" / "psmax")]
 
 from psmax.project import Project  # noqa: E402
 from psmax.project_text import parse  # noqa: E402

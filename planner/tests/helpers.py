@@ -1,5 +1,6 @@
 """What the tests share. They call the built programs, and take their expected values from the format's description, from
 calculation by hand, or from a proof of psmax."""
+import functools
 import io
 import json
 import os
@@ -86,6 +87,12 @@ def psmax(*words: object, given: bytes = b"") -> str:
     return subprocess.run([PSMAX, *map(str, words)], input=given, capture_output=True, timeout=60).stdout.decode()
 
 
+@functools.cache
+def job_shop() -> bytes:
+    made = "import projects, sys; sys.stdout.buffer.write(projects.job_shop(20, 15, 1).text())"
+    return subprocess.run([sys.executable, "-c", made], cwd=TOP / "bench", capture_output=True, check=True).stdout
+
+
 class InFolder(unittest.TestCase):
     """A test with a new folder of its own."""
 
@@ -112,9 +119,7 @@ class InFolder(unittest.TestCase):
 
     def hard(self) -> pathlib.Path:
         """A project that no search here settles in a minute, and of which psprove finds a schedule at once."""
-        made = "import projects, sys; sys.stdout.buffer.write(projects.job_shop(20, 15, 1).text())"
-        ran = subprocess.run([sys.executable, "-c", made], cwd=TOP / "bench", capture_output=True, check=True)
-        return self.file("hard.sch", ran.stdout)
+        return self.file("hard.sch", job_shop())
 
     def refused(self, ran: Ran, status: int, *texts: str, faults: int = 1) -> None:
         """One clear line on standard error for each fault, and nothing else."""

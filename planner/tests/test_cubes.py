@@ -367,7 +367,7 @@ class OnDask(InCubes):
             told = told_until(verify, "the cluster has no worker yet")
             self.worker()
             out, rest = verify.communicate()
-        self.assertEqual((verify.returncode, out.partition(": ")[2]), (4, "event 1: claim\n"), told + rest)
+        self.assertEqual((verify.returncode, out.partition(": ")[2]), (4, "its step 1 is wrong (claim)\n"), told + rest)
 
     def test_no_scheduler(self) -> None:
         with mock.patch("psmax.cubes.machines.CONNECT", 1.0):

@@ -20,7 +20,7 @@ class Live(InFolder):
             child.send_signal(signal.SIGINT)
             self.assertEqual(child.stdout.read(), "feasible 9 bound 6\n")
         told = [line.split("  ")[-1] for line in lines]
-        self.assertEqual(told, ["bound 4", "schedule 12, by a dive", "schedule 9, by a dive", "bound 6"])
+        self.assertEqual(told, ["bound 4", "schedule 12", "schedule 9", "bound 6"])
 
     def test_ctrl_c(self) -> None:
         """What was told stays, also where psprove then answers with a longer schedule, or with none, or not at all."""
@@ -54,11 +54,11 @@ class Live(InFolder):
     def test_ctrl_c_of_psprove(self) -> None:
         """No answer is longer than the last schedule that was told, nor its bound less, and the record proves it."""
         path, record = self.hard(), self.folder / "record"
-        for place in range(5):
+        for place in range(3):
             with self.subTest(place), started("solve", path, "--jobs", "2", "--record", record) as child:
                 assert child.stdout is not None and child.stderr is not None
                 told = told_until(child, "schedule ")
-                time.sleep(place / 5)
+                time.sleep(place / 3)
                 child.send_signal(signal.SIGINT)
                 told += child.stderr.read()
                 out = child.stdout.read()

@@ -49,7 +49,7 @@ class InParts(InCubes):
         fault = "echo psprove: event $event >&2; exit 4"
         ran = self.verify(f"case $3 in 1/3) event='7: lemma'; {fault};; 2/3) event='12: lemma'; {fault};; esac\n"
                           "cat > /dev/null; echo part $3 of proved optimal 9; exit 0", "--jobs", "3")
-        self.assertEqual((ran.returncode, ran.stdout.partition(": ")[2]), (4, "event 7: lemma\n"), ran.stderr)
+        self.assertEqual((ran.returncode, ran.stdout.partition(": ")[2]), (4, "its step 7 is wrong (lemma)\n"), ran.stderr)
 
     def test_a_check_that_dies(self) -> None:
         """Once: the part is checked again. Each time: it is named."""
@@ -72,7 +72,7 @@ class InParts(InCubes):
         with mock.patch("psmax.cubes.machines.Processes.threads", threads):
             ran = self.verify("cat > /dev/null\ncase $3 in 1/2) touch gone; echo part $3 of proved optimal 9; exit 0;; esac\n"
                               "sleep 1; echo psprove: event 7: lemma >&2; exit 4", "--jobs", "2")
-        self.assertEqual((ran.returncode, ran.stdout.partition(": ")[2]), (4, "event 7: lemma\n"), ran.stderr)
+        self.assertEqual((ran.returncode, ran.stdout.partition(": ")[2]), (4, "its step 7 is wrong (lemma)\n"), ran.stderr)
         self.assertIn("the cluster has no worker yet\n", ran.stderr)
 
     def test_odd_answers(self) -> None:

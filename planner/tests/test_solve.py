@@ -157,8 +157,9 @@ class Records(InFolder):
 
     def test_wrong_records(self) -> None:
         path, record = INPUTS / "two-jobs.sch", self.folder / "record"
-        for text, told in ((b"record 3\n\x02\x07\x10", "event 1: claim"), (b"record 3\n\x02\x07", "event 1: short"),
-                           (b"hello\n", "event 0: form"), (b"", "event 0: short")):
+        for text, told in ((b"record 3\n\x02\x07\x10", "its step 1 is wrong (claim)"),
+                           (b"record 3\n\x02\x07", "its step 1 is wrong (short)"),
+                           (b"hello\n", "its step 0 is wrong (form)"), (b"", "its step 0 is wrong (short)")):
             self.file("record", text)
             self.assertEqual(self.verified(path, record), (4, f"{record} proves nothing of {path}: {told}"))
         self.refused(plan("verify", path, self.file("record", "record 1\n")), 2, "record: line 2: short")

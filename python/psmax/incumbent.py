@@ -43,7 +43,7 @@ class Incumbent(Claim):
         value, bound = self.value, self.bound
         self.take(told, "psprove solve")
         if self.value != value:
-            tell(self.clock, f"schedule {self.goal.words(self.value)}, {told.found}")
+            tell(self.clock, f"schedule {self.goal.words(self.value)}")
         if self.bound != bound:
             tell(self.clock, f"bound {self.goal.words(self.bound)}")
 

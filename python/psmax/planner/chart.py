@@ -10,6 +10,7 @@ from .wording import Words
 ROW, LOAD, RULER = 22, 52, 24  # pixels of an activity, of a resource, and of the times above them
 LEFT, RIGHT = 8, 16  # pixels before the first time and behind the last
 MARK = 120  # pixels from one time of the ruler to the next, at least, which is room for a date with its hour
+NOT_KNOWN = "total float not known yet"
 STYLE = (pathlib.Path(__file__).parent / "chart.css").read_text("utf-8")
 
 
@@ -80,7 +81,7 @@ class Chart:
         found = []
         if bar.window is not None and bar.window.float:
             found.append(self.box(bar.window.earliest, bar.window.latest + bar.ends - bar.begins, 9, 4, "float"))
-        kind = "past" if bar.has_started else "critical" if bar.is_critical else "bar"
+        kind = "past" if bar.has_started else "critical" if bar.is_critical else "unknown" if bar.is_open else "bar"
         found += [self.body(bar.begins, bar.ends, kind if self.shown.is_plan else "was")]
         if bar.was is not None and bar.was != (bar.begins, bar.ends):
             found.append(self.body(*bar.was, "was"))
@@ -96,6 +97,7 @@ class Chart:
     def said(self, bar: Bar) -> str:
         """What a bar says, in words."""
         kind = ", has started" if bar.has_started else ", critical" if bar.is_critical else ""
+        kind = kind or (f", {NOT_KNOWN}" if bar.is_open else "")
         spare = ""
         if bar.window is not None and bar.window.float:
             last = bar.window.latest + bar.ends - bar.begins

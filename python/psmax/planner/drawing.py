@@ -23,6 +23,7 @@ class Bar:
     has_started: bool = False
     was: tuple[int, int] | None = None  # when it began and ended in the plan before
     id: str = ""  # its ID in the table, or its number
+    is_open: bool = False  # whether its total float is not known yet
 
     @property
     def label(self) -> str:
@@ -70,6 +71,7 @@ class Known:
     critical: Collection[int] = ()
     started: Collection[int] = ()
     was: Mapping[int, tuple[int, int]] = field(default_factory=dict)  # when each began and ended in the plan before
+    open: Collection[int] = ()  # whose total float is not known yet
 
 
 def make(opened: ProjectFile, starts: tuple[int, ...], title: str, notes: tuple[str, ...] = (), known: Known = Known(),
@@ -84,7 +86,7 @@ def make(opened: ProjectFile, starts: tuple[int, ...], title: str, notes: tuple[
                  if group.activities.start == i and len(group.activities)]
         bars.append(Bar(i, opened.names.activities.get(i, ""), starts[i], starts[i] + project.durations[i],
                         *opened.times(i, starts[i]), known.windows.get(i), i in known.critical, project.due.get(i),
-                        i in known.started, known.was.get(i), opened.names.label(i)))
+                        i in known.started, known.was.get(i), opened.names.label(i), i in known.open))
     loads = tuple(Load(opened.names.resource(k), units, joined(stretches(project, starts, k)),
                        cut(away(project, k, ends), ends)) for k, units in enumerate(project.capacities))
     return Drawing(title, notes, begins, ends, tuple(bars), loads, is_plan, opened.calendar, opened.length, opened.after)

@@ -65,24 +65,30 @@ def part(text: str) -> tuple[int, int]:
     return int(found[1]), int(found[2])
 
 
-def parser() -> tuple[Parser, dict[str, Parser]]:
-    """The parser of all, and those of the commands."""
-    shown = argparse.RawDescriptionHelpFormatter
-    top = Parser(prog="plan", description=ABOUT, epilog=STATUSES, formatter_class=shown)
+def parser() -> Parser:
+    """The parser of what is no command: of help, the version and faults."""
+    top = Parser(prog="plan", description=ABOUT, epilog=STATUSES, formatter_class=argparse.RawDescriptionHelpFormatter)
     top.add_argument("--version", action=Version, nargs=0, help="print the versions of plan, its programs and Python")
-    commands: "argparse._SubParsersAction[Parser]" = top.add_subparsers(dest="command", required=True, metavar="COMMAND")
-    for name, add, text, reads, example in COMMANDS:
-        epilog = f"example:\n  plan {name} {example}\n\n{STATUSES}"
-        add(commands.add_parser(name, help=text, description=reads, epilog=epilog, formatter_class=shown))
-    return top, dict(commands.choices)
+    commands = top.add_subparsers(dest="command", required=True, metavar="COMMAND")
+    for name, add, text, *_ in COMMANDS:
+        add(commands.add_parser(name, help=text))
+    return top
+
+
+def parser_of(command: str) -> Parser:
+    """That of one command alone, since the parsers of all take longer than many a command."""
+    name, add, _, reads, example = next(one for one in COMMANDS if one[0] == command)
+    epilog = f"example:\n  plan {name} {example}\n\n{STATUSES}"
+    one = Parser(prog=f"plan {name}", description=reads, epilog=epilog, formatter_class=argparse.RawDescriptionHelpFormatter)
+    add(one)
+    return one
 
 
 def parsed(arguments: Sequence[str]) -> argparse.Namespace:
     """What the arguments say. Files and options may stand in any order behind the command."""
-    top, commands = parser()
-    if arguments and arguments[0] in commands:
-        return commands[arguments[0]].parse_intermixed_args(arguments[1:])
-    return top.parse_args(arguments)
+    if arguments and arguments[0] in [name for name, *_ in COMMANDS]:
+        return parser_of(arguments[0]).parse_intermixed_args(arguments[1:])
+    return parser().parse_args(arguments)
 
 
 def add_solve(one: argparse.ArgumentParser) -> None:

@@ -14,7 +14,7 @@ from .. import __version__
 from ..project import Arc, Goal
 from ..total import TotalFloat
 from . import drawing
-from .chart import LOAD, ROW, RULER, STYLE, Chart, definitions, mark, markup
+from .chart import LOAD, NOT_KNOWN, ROW, RULER, STYLE, Chart, definitions, mark, markup
 from .drawing import Bar, Drawing
 from .headline import MISSED
 from .project_file import ProjectFile
@@ -24,7 +24,7 @@ from .wording import Words
 
 FOLDER = pathlib.Path(__file__).parent
 PLACES = ("headline", "made", "read", "facts", "proof", "definitions", "ruler", "arrows", "heads", "total", "lines", "rows",
-          "uses")
+          "uses", "digest")
 WIDTH = {"A4": 760, "A3": 1230}  # pixels of the time, so that it fits the paper on its side beside the names
 WIDEST = 36  # pixels of a period at most
 Rows = list[tuple[str, str]]  # rows of a table, each with what it is known by
@@ -44,6 +44,13 @@ class View:
     circle: tuple[Arc, ...] = ()  # of lags that contradict each other
     is_plan: bool = True  # and not the starts of a plan before, where there is no schedule
     headline: tuple[str, ...] = ()
+    digest: str = ""  # of the record
+
+    def open(self) -> set[int]:
+        """The activities whose total float is neither proved nor above 0 in some schedule that is known."""
+        if self.total is None:
+            return {*range(1, self.opened.project.end)} - {*self.opened.progress.started}
+        return {i for i in self.total.open() if self.total.found[i].least == self.total.found[i].start}
 
 
 class Page:
@@ -52,8 +59,9 @@ class Page:
         self.words, self.paper = Words(view.opened), paper
         critical = view.total.critical() if view.total is not None else set()
         started = view.total.started if view.total is not None else view.opened.progress.started
+        self.open = view.open() if view.is_plan else set()
         self.shown: Drawing = drawing.make(view.opened, view.starts, "", (), drawing.Known(
-            view.windows, critical, started, view.was), view.is_plan)
+            view.windows, critical, started, view.was, self.open), view.is_plan)
         self.chart = Chart(self.shown, zoom * min(WIDEST, WIDTH[paper] / (self.shown.ends - self.shown.begins)))
         self.activities = sorted((bar for bar in self.shown.bars if bar.activity is not None),
                                  key=lambda bar: (bar.begins, bar.activity))
@@ -72,7 +80,7 @@ class Page:
             "proof": markup(*in_code(self.view.proof)),
             "definitions": markup(definitions(), grid), "ruler": markup(picture(chart.width, RULER, chart.ruler())),
             "arrows": markup(picture(chart.width, chart.height, arrows)), "heads": markup(*self.heads()),
-            "total": escape(self.said_of_total()),
+            "total": escape(self.said_of_total()), "digest": escape(self.view.digest),
         }
 
     def tables(self) -> dict[str, Rows]:
@@ -117,7 +125,7 @@ class Page:
 
     def total_float(self, activity: int) -> tuple[str, int]:
         if self.view.total is None:
-            return "", -1
+            return "not known yet" if activity in self.open else "", -1
         latest = self.view.total.found[activity]
         return "critical" if latest.is_critical else latest.text(self.opened.length), latest.least - latest.start
 
@@ -181,7 +189,9 @@ class Page:
         ends, project, opened = max([0, *self.project.ends(self.view.starts)]), self.project, self.opened
         whole = count(ends, opened.names.unit or "periods") if opened.is_own() else fact(opened.length(ends), "of work")
         found = [*([whole] if self.view.is_plan else []), count(len(self.activities), "activities")]
-        found += [] if self.view.total is None else [count(len(self.view.total.critical()), "critical")]
+        critical = [] if self.view.total is None else self.view.total.critical()
+        found += [count(len(critical), "critical")] if critical or not self.open and self.view.is_plan else []
+        found += [fact(f"{len(self.open)}", NOT_KNOWN)] if self.open else []
         found += [count(len(self.shown.loads), "resources"), count(opened.changeable(), "lags")]
         found += [count(len(project.absences), "absences")] if project.absences else []
         is_late = project.goal is Goal.LATENESS and self.view.is_plan

@@ -21,7 +21,7 @@ from .csv_text import write_sheet
 from .headline import headline
 from .page import View
 from .project_file import ProjectFile
-from .report import headline_of, page_of, proof
+from .report import digest, headline_of, page_of, proof
 from .verify import judged
 from .window import Window, windows
 from .write import rows
@@ -81,7 +81,7 @@ class Plan(Claim):
         """What is proved, and by whom."""
         if self.none:
             return "psprove has proved that there is no schedule. What is drawn is where the activities were before."
-        told = f"A schedule of {self.goal.words(self.value)} is known, and psprove's proved book says that none is "
+        told = f"A schedule of {self.goal.words(self.value)} is known, and psprove has proved that none is "
         return told + ("shorter." if self.settled else f"shorter than {self.goal.words(self.bound)}.")
 
     def side(self) -> Side | None:
@@ -136,5 +136,6 @@ def contents(plan: Plan, stem: str) -> dict[str, bytes]:
             if not judgement.wrong:
                 found, files[f"{stem}.record"] = judgement, record.data
     view = View(opened, starts, proof(answer, found), found is not None and found.bound == answer.value,
-                plan.windows or windows(opened.project, starts, psmax), plan.total, headline=headline_of(answer, found, opened))
+                plan.windows or windows(opened.project, starts, psmax), plan.total, headline=headline_of(answer, found, opened),
+                digest=digest(found))
     return files | {f"{stem}.html": page_of(view, "A4")}

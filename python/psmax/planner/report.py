@@ -38,8 +38,15 @@ def proof(answer: Answer, found: Verdict | None) -> str:
     told = f"`psmax check` finds this schedule of {which.words(answer.value)} feasible: it keeps each lag and each resource. "
     if found is None:
         return told + "No record was handed in, so nothing is said of shorter ones."
-    size, digest = len(found.record.data), hashlib.sha256(found.record.data).hexdigest()
-    return f"{told}{found.sentence()} {found.judges()} The record has {size:,} bytes and the SHA-256 {digest}."
+    return f"{told}{found.sentence()} {found.judges()}"
+
+
+def digest(found: Verdict | None) -> str:
+    """By which one knows the record again."""
+    if found is None:
+        return ""
+    size, text = len(found.record.data), hashlib.sha256(found.record.data).hexdigest()
+    return f"The record has {size:,} bytes and the SHA-256 {text}."
 
 
 def headline_of(answer: Answer, found: Verdict | None, opened: ProjectFile) -> tuple[str, ...]:
@@ -61,8 +68,9 @@ def report(opened: ProjectFile, given: str | None, start: Start, options: Option
     clock = Clock(options.seconds)
     clock.listen()
     total = total_float(begin_with(opened, start), answer.starts, Psprove(clock, opened.path), options.jobs)
-    view = View(opened, answer.starts, proof(answer, found), found is not None and found.bound == answer.value,
-                windows(opened.project, answer.starts, psmax), total, headline=headline_of(answer, found, opened))
+    is_shortest = found is not None and found.bound == answer.value
+    view = View(opened, answer.starts, proof(answer, found), is_shortest, windows(opened.project, answer.starts, psmax), total,
+                headline=headline_of(answer, found, opened), digest=digest(found))
     write_whole(options.out, page_of(view, options.paper))
     return 3 if total.open() else 0
 

@@ -1,5 +1,6 @@
 """`plan verify`: what a record proves of a project, and who has checked it."""
 import json
+import re
 from dataclasses import dataclass
 
 from ..clock import Clock
@@ -14,9 +15,9 @@ from ..psprove import Psprove
 from ..record import OF_PSMAX, WRONG, Record, record_in
 from .beginning import Start, begin_with
 from .project_file import ProjectFile
-from .read_back import many
 
 RECORD = b"record "  # how one begins
+STEP, STEP_IN_WORDS = re.compile(r"\bevent (\d+): (\w+)"), r"its step \1 is wrong (\2)"  # as psprove says it, and here
 
 
 @dataclass(frozen=True)
@@ -39,7 +40,7 @@ class Verdict:
 
     def sentence(self) -> str:
         if self.wrong:
-            return f"{self.path} proves nothing of {self.which}: {self.told}"
+            return f"{self.path} proves nothing of {self.which}: {STEP.sub(STEP_IN_WORDS, self.told)}"
         if self.bound is None:
             return f"{self.path} proves that there is no schedule of {self.which}."
         is_late = self.record.spelled.project.goal is Goal.LATENESS
@@ -50,8 +51,10 @@ class Verdict:
     def judges(self) -> str:
         parts, cases = "" if self.parts == 1 else f" in {self.parts} parts", self.record.cases()
         if cases:
-            return (f"It has the records of {many(cases, 'case')}, which have all schedules between them by the calendar of "
-                    f"the table. `{self.program} verify`, which is proved itself, has judged each record.")
+            which = "the record of one case, which has all schedules" if cases == 1 else \
+                f"the records of {cases} cases, which have all schedules between them"
+            return (f"It has {which}, by the calendar of the table. `{self.program} verify`, which is proved itself, has "
+                    f"judged {'it' if cases == 1 else 'each'}.")
         return (f"`{self.program} verify`, which is proved itself, has judged it{parts}; {self.script} judges it without "
                 f"{self.program}.")
 
