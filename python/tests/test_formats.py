@@ -129,7 +129,7 @@ class Formats(InFolder):
         self.refused(plan("read", "-", given=b"activity,days\na,1\n"), 2, "name a .sch file with --out")
         self.refused(plan("solve", self.file("x.sm", "****************\n")), 2, "x.sm: there is no section PRECEDENCE")
         ran = plan("solve", DATA / "bridge.json", "--jobs", "1", "--out", self.folder / "best.csv")
-        self.assertEqual(ran.stdout, "optimal 13\n", ran.stderr)
+        self.assertEqual(ran.stdout.partition("\n")[0], "optimal, ends Thu 2026-03-19 (13 days)", ran.stderr)
         ran = plan("write", DATA / "bridge.json", self.folder / "best.csv")
         self.assertIn("hand over,13,0,13,2026-03-19,2026-03-19", ran.stdout)
 

@@ -97,10 +97,6 @@ def write(opened: ProjectFile, given: str | None, sheet: Sheet, resource: str | 
     if resource is not None and suffix != icalendar.SUFFIX:
         raise BadInput(f"--resource is for a calendar, which --out names with {icalendar.SUFFIX}")
     known = feasible(opened, read_answer(given), Psmax(Clock(), opened.path))
-    said = verdict(opened, known.starts, known.starts[-1])
-    is_told = opened.calendar is not None or bool(said[1:])
-    if is_told and sheet.out is not None or said[1:] and said[1].startswith(MISSED):
-        print(*said, sep="\n", file=sys.stderr if sheet.out is None else sys.stdout)
     if suffix == icalendar.SUFFIX:
         must_be_like(sheet.out, icalendar.BEGIN, "calendar")
         put(icalendar.calendar_text(opened, known.starts, resource, datetime.datetime.now(datetime.UTC)), sheet.out)
@@ -109,6 +105,10 @@ def write(opened: ProjectFile, given: str | None, sheet: Sheet, resource: str | 
         put(replanned(opened, known.starts), sheet.out)
     else:
         sheet.put(rows(opened, known.starts), opened)
+    said = verdict(opened, known.starts, known.starts[-1])
+    is_told = opened.calendar is not None or bool(said[1:])
+    if is_told and sheet.out is not None or said[1:] and said[1].startswith(MISSED):
+        print(*said, sep="\n", file=sys.stderr if sheet.out is None else sys.stdout)
     return 0
 
 
