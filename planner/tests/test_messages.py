@@ -92,7 +92,7 @@ class Why(InFolder):
 
     def test_a_circle_without_a_greatest_lag(self) -> None:
         text = self.told(f"{LAGS}a,5,b,,\nb,3,a,,\n")
-        self.assertIn("  Let one of them go, since each waits for the others", text)
+        self.assertIn("  Together they ask for 8 days more than there are.", text)
 
     def test_ends_as_in_the_table(self) -> None:
         """By hand: the table says 2 after the end of an activity of 5, which is 7 after its start."""
@@ -103,13 +103,13 @@ class Why(InFolder):
     def test_how_much_is_needed(self) -> None:
         """By hand: c starts 9 after a at the soonest, by b; a shorter way asks for 8. 7 is too little, and so is 8."""
         text = self.told(f"{LAGS}a,5,,,\nb,3,a,,\nc,1,b,1,\n,,a,3,\n,,start of a,any,7\n")
-        self.assertIn("This is enough in its place, and less is not: 3 (c) starts at most 4 after 1 (a) ends.", text)
+        self.assertIn("which is enough, and less is not: 3 (c) starts at most 4 after 1 (a) ends.", text)
 
     def test_how_much_resources_need(self) -> None:
         """By hand: two jobs of 3 and 4 on one machine take 7; the deadline of 5 must be 7."""
         text = TWO_JOBS.replace("3 1 0\n", "3 1 1 0 [-5]\n", 1)
         ran = plan("why", self.file("p.sch", text))
-        self.assertIn("This is enough in its place, and less is not: the project ends by 7.", ran.stdout)
+        self.assertIn("which is enough, and less is not: the project ends by 7.", ran.stdout)
 
     def test_needs_more_than_there_is(self) -> None:
         ran = plan("why", INPUTS / "one-job-too-big.sch")
