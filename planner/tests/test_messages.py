@@ -92,7 +92,7 @@ class Why(InFolder):
 
     def test_a_circle_without_a_greatest_lag(self) -> None:
         text = self.told(f"{LAGS}a,5,b,,\nb,3,a,,\n")
-        self.assertIn("  Together they ask for 8 days more than there are.", text)
+        self.assertIn("  Together they ask for 8 days more than there are.\n  Each waits for the others, so one of", text)
 
     def test_ends_as_in_the_table(self) -> None:
         """By hand: the table says 2 after the end of an activity of 5, which is 7 after its start."""

@@ -24,8 +24,10 @@ def in_words(circle: list[Arc], words: Words) -> list[str]:
     circle = as_read(circle)
     over = sum(arc.lag for arc in circle)
     lead = "These lags contradict each other:" if len(circle) > 1 else "This lag contradicts itself:"
+    is_knot = all(arc.lag >= 0 and arc.head for arc in circle)
+    knot = ["  Each waits for the others, so one of these lags can't be meant."] if is_knot else []
     return [lead, *(f"  {words.lag(arc)}{words.origin(arc)}" for arc in circle),
-            f"  Together they ask for {words.many(over)} more than there {'is' if over == 1 else 'are'}."]
+            f"  Together they ask for {words.many(over)} more than there {'is' if over == 1 else 'are'}.", *knot]
 
 
 def as_read(circle: list[Arc]) -> list[Arc]:
