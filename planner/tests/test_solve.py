@@ -175,7 +175,7 @@ class Records(InFolder):
 
 
 class Progress(InFolder):
-    LINE = re.compile(r" *\d+\.\d\d s  (?:schedule (\d+)(?:, .+|: .+)|bound (\d+)|"
+    LINE = re.compile(r" *\d+\.\d\d s  (?:schedule (\d+)(?:: .+)?|bound (\d+)|"
                       r"feasible (\d+) bound (\d+), proved: psprove solve .+|the .* seconds are over|stopped)")
 
     def held(self, out: str, path: pathlib.Path, told: str) -> None:

@@ -58,7 +58,8 @@ class Batches(InFolder):
         self.assertTrue((self.folder / "out" / "more-six.starts").is_file())
         self.refused(plan("batch", self.more, self.folder / "again" / "more", *words), 2,
                      "two projects would be written as more-six")
-        self.refused(plan("batch", self.more, "--record", self.folder / "gone"), 1, "gone: it is no folder")
+        there = self.file("there", "my own words\n")
+        self.refused(plan("batch", self.more, "--record", there), 1, "there: it is no folder")
 
     def test_half_a_second(self) -> None:
         shutil.copy(self.hard(), self.more)

@@ -13,8 +13,8 @@ from ..dates import ORDERS
 from ..errors import BadInput
 from ..formats import FORMATS
 from ..project import MOST_UNITS
-from . import (batch, batch_table, check, compare, cubes, floats, gantt, join, read, report, solve, status, verify, watch,
-               whatif, where, why, write)
+from . import (batch, batch_table, check, compare, cubes, floats, gantt, join, read, report, solve, status, verify, whatif,
+               where, why, write)
 from .beginning import Start
 from .csv_text import SEPARATORS
 from .project_file import ProjectFile, open_project
@@ -278,8 +278,13 @@ def add_watch(one: argparse.ArgumentParser) -> None:
     one.add_argument("--record", metavar="FILE", help="write the record of each search into FILE")
     one.add_argument("--port", type=number(0, 65_535), default=0, metavar="P", help="serve on this port (default: a free one)")
     one.add_argument("--open", action="store_true", help="open the page in a browser")
-    one.set_defaults(run=lambda o: watch.watch(o.table, settings(o), start(o), watch.Options(
-        o.seconds, o.jobs, o.record, o.port, o.open)))
+    one.set_defaults(run=run_watch)
+
+
+def run_watch(options: argparse.Namespace) -> int:
+    from . import watch  # its server takes longer to import than many a command
+    return watch.watch(options.table, settings(options), start(options), watch.Options(
+        options.seconds, options.jobs, options.record, options.port, options.open))
 
 
 def add_check(one: argparse.ArgumentParser) -> None:
