@@ -43,6 +43,13 @@ class Headline(InFolder):
         self.assertEqual(ends, "optimal, ends Thu 16.04. 14:15 (33,75 h)")
         self.assertEqual(late, "LATE: 1 of 1 due: A-30 (einheben) by 8,25 h, due Mon 13.04. 14:30")
 
+    def test_progress(self) -> None:
+        """Each schedule and each bound is a date too."""
+        told = plan("solve", self.file("t.csv", GERMAN), "--jobs", "1").stderr
+        for line in ("schedule Thu 16.04. 14:15 (33,75 h)\n", "bound Thu 16.04. 14:15 (33,75 h)\n",
+                     "optimal, ends Thu 16.04. 14:15 (33,75 h), proved: psprove solve"):
+            self.assertIn(f" s  {line}", told)
+
     def test_english(self) -> None:
         ends, late = self.solved(ENGLISH)
         self.assertEqual(ends, "optimal, ends Fri 2026-04-17 (5 days)")

@@ -27,6 +27,8 @@ class Incumbent(Claim):
         self.goal, self.project = project.goal, project
         self.better: Callable[[], None] = lambda: None  # what is done each time the schedule gets shorter
         self.listener: Callable[[News], None] = lambda _: None  # what is done with each
+        self.called: Callable[[int | None], str] = self.goal.words  # what a value is called in progress
+        self.line: Callable[[], str] = self.first_line  # what is known, in a line of progress
         self.bound = ProjectText(project).value(0)
         self.value = None
         self.starts: tuple[int, ...] | None = None
@@ -35,7 +37,7 @@ class Incumbent(Claim):
 
     def offer(self, starts: Sequence[int], by: str) -> None:
         """Takes starts that are a feasible schedule, by what is said of them."""
-        tell(self.clock, f"schedule {self.goal.words(starts[-1])}: {by}")
+        tell(self.clock, f"schedule {self.called(starts[-1])}: {by}")
         self.put(tuple(starts), self.bound)
 
     def hear(self, told: Solved) -> None:
@@ -43,9 +45,9 @@ class Incumbent(Claim):
         value, bound = self.value, self.bound
         self.take(told, "psprove solve")
         if self.value != value:
-            tell(self.clock, f"schedule {self.goal.words(self.value)}")
+            tell(self.clock, f"schedule {self.called(self.value)}")
         if self.bound != bound:
-            tell(self.clock, f"bound {self.goal.words(self.bound)}")
+            tell(self.clock, f"bound {self.called(self.bound)}")
 
     def learn(self, answer: Solved, by: str) -> None:
         """Takes what a search answers at its end."""
@@ -53,7 +55,7 @@ class Incumbent(Claim):
         self.take(answer, by)
         if answer.bound == self.bound and (answer.settled or not self.record):
             self.record = answer.record
-        tell(self.clock, f"{self.first_line()}, proved: {by}")
+        tell(self.clock, f"{self.line()}, proved: {by}")
 
     def take(self, told: Solved, by: str) -> None:
         """Takes what a program has proved."""

@@ -35,6 +35,16 @@ def verdict(opened: ProjectFile, starts: Sequence[int], value: int) -> list[str]
     return [f"feasible{ends(opened, starts, value)}", *due_line(opened, starts)]
 
 
+def called(opened: ProjectFile, value: int | None) -> str:
+    """What a makespan or a lateness is called: by its date, where there are dates."""
+    words = Words(opened)
+    if opened.calendar is None or value is None:
+        return opened.project.goal.words(value)
+    if opened.project.goal is Goal.LATENESS:
+        return late(words, value)
+    return f"{words.brief(value, value > 0)} ({words.many(value)})"
+
+
 def told(opened: ProjectFile, known: Claim, starts: Sequence[int]) -> str:
     value, bound, words = known.value or 0, known.bound or 0, Words(opened)
     rest = "" if known.settled else f", at least {late(words, bound) if known.goal is Goal.LATENESS else words.many(bound)}"

@@ -18,7 +18,7 @@ from ..search import search
 from . import cubes, drawing, svg
 from .answer_file import AnswerFile, activities_of
 from .beginning import Start, begin_with, go_on
-from .headline import headline
+from .headline import called, headline
 from .project_file import ProjectFile
 from .read_back import first_line
 from .verify import RECORD
@@ -54,17 +54,18 @@ def solve(opened: ProjectFile, start: Start, options: Options) -> int:
     for line in [*first_line(opened), *opened.notes, *beginning.told]:
         tell(clock, line)
     known = Incumbent(clock, beginning.project)
+    known.called, known.line = partial(called, opened), lambda: headline(opened, known, known.starts)[0]
     if kept is not None:
         known.better = partial(kept.put_if_possible, known)
-    for starts, called in schedules:
-        known.offer(starts, f"{called}, by check")
+    for starts, source in schedules:
+        known.offer(starts, f"{source}, by check")
     try:
         if options.places is not None:
             cubes.search(beginning, known, options.places)
         else:
             psprove = Psprove(clock, opened.path)
-            called = start.answer or (before.called if before is not None else "")
-            search(beginning.project, psprove, known, options.jobs, beginning.repairs, called)
+            near = start.answer or (before.called if before is not None else "")
+            search(beginning.project, psprove, known, options.jobs, beginning.repairs, near)
     except Failed:
         if known.starts is not None:
             give(known, opened, options, kept)
