@@ -66,7 +66,8 @@ class Words:
         """Where a start comes from that no row has as a lag or a date: behind a comma, and else empty."""
         activity = arc.head or arc.tail
         if arc in self.kept:
-            return ", since it stays as in the old plan" if activity in self.started(self.kept) else ", since it has not started by then"
+            stays = activity in self.started(self.kept)
+            return ", since it stays as in the old plan" if stays else ", since it has not started by then"
         if arc not in self.now or arc in self.written:
             return ""
         table = self.opened.table
