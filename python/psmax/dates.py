@@ -24,6 +24,8 @@ NAME = re.compile(r"([A-Za-z]+)[.,]?\s+(?=\d)")  # of a day, in front of its dat
 SPAN = re.compile(r"(\d{1,2}):(\d\d)\s*[-\u2013]\s*(\d{1,2}):(\d\d)")
 EXAMPLE = "not a date such as 2026-03-02, 02.03.2026 or 2026-03-02 06:00"
 MIDNIGHT = 24 * 60
+FAR_YEARS = 20  # from the project's start; a date that is farther is a slip
+FAR = datetime.timedelta(days=366 * FAR_YEARS)
 
 
 @dataclass(frozen=True)
@@ -34,6 +36,11 @@ class Moment:
     def next(self) -> datetime.datetime:
         """The end of the day; the moment itself where it has an hour."""
         return self.at + datetime.timedelta(days=1) if self.is_day else self.at
+
+
+def is_before(one: Moment, other: Moment) -> bool:
+    """Whether one is over before the other begins. A day is not over before a moment of it."""
+    return one.next() <= other.at if one.is_day else one.at < other.at
 
 
 def is_dated(text: str) -> bool:

@@ -4,20 +4,20 @@ from dataclasses import replace
 from ..errors import BadInput
 from ..files import read_text
 from ..letters import short
-from ..project import MOST_UNITS, Absence, Project
+from ..project import Absence, Project
 from .columns import HEADS, Column, Columns
 from .csv_text import cell, read_sheet
 from .faults import Faults, fault_at
 from .lags import did_you_mean
 from .names import Names
-from .rows import Row, Terms
+from .rows import Row, Terms, is_reversed
 
 HEAD = ("resource", "from", "to", "units")
 
 
 def read_absences(path: str, project: Project, names: Names, terms: Terms) -> list[Absence]:
     """By dates, of which the last is the last day away, or by the numbers of periods, as a resource's use is written. No first
-    one is from the start on, no last one for ever, and no units are all."""
+    one is from the start on, no last one for ever, and no units are all. A period of which a part is away is away."""
     sheet, faults, found = read_sheet(path, read_text(path), is_head), Faults(), []
     heads = [head.lower() for head in sheet.heads]
     if not {"resource", "from", "to"} <= {*heads}:
@@ -48,17 +48,25 @@ def read_absence(row: Row, told: dict[str, str], places: dict[str, int], project
         raise row.fault(places["resource"], f"no resource '{short(told['resource'])}'"
                         f"{did_you_mean(told['resource'], names.resources)}")
     resource = names.resources.index(told["resource"])
-    begins = row.begin(places["from"], told["from"]) if told["from"] else 0
-    ends = row.close(places["to"], told["to"]) if told["to"] else None
-    if ends is not None and ends < begins and row.begin(places["to"], told["to"]) < begins:
-        raise row.fault(places["to"], f"'{short(told['to'])}' is before '{short(told['from'])}'")
+    begins, ends = periods_away(row, told, places)
     units = row.units(places["units"]) if told.get("units") else project.capacities[resource]
     if units > project.capacities[resource]:
         raise row.fault(places["units"], f"{units} of {short(told['resource'])} can't be away, of which there are "
                         f"{project.capacities[resource]}")
-    if max(begins, ends or 0) > MOST_UNITS:
-        raise row.fault(places["from"], f"an absence is at most {MOST_UNITS:,} periods after the start")
-    return Absence(resource, begins, None if ends is None else max(begins, ends), units)
+    return Absence(resource, begins, ends, units)
+
+
+def periods_away(row: Row, told: dict[str, str], places: dict[str, int]) -> tuple[int, int | None]:
+    """From the first period that it touches, be it for a minute, until the end of the last one."""
+    first = row.time_in(places["from"], told["from"]) if told["from"] else 0
+    last = row.time_in(places["to"], told["to"]) if told["to"] else None
+    begins = first if isinstance(first, int) else max(0, row.by(places["from"], told["from"], first.at))
+    if last is None:
+        return begins, None
+    ends = last if isinstance(last, int) else row.from_on(places["to"], told["to"], last.next())
+    if is_reversed(first, last, begins, ends):
+        raise row.fault(places["to"], f"'{short(told['to'])}' is before '{short(told['from'])}'")
+    return begins, ends
 
 
 def must_be_there(row: Row, place: int, project: Project, names: Names, found: list[Absence]) -> None:

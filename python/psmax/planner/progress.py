@@ -10,7 +10,7 @@ from ..letters import short
 from ..project import Arc
 from .columns import Column
 from .faults import Faults
-from .rows import Row
+from .rows import Row, is_reversed
 
 TOLD = (Column.STARTED, Column.FINISHED, Column.REMAINING, Column.DONE)
 PERCENT = re.compile(r"([0-9]{1,3}(?:[.,][0-9]{1,3})?)\s*%?")
@@ -52,12 +52,7 @@ def so_far(row: Row, now: int, planned: int) -> tuple[int, int]:
     """The real start, and the duration that follows from what has been done."""
     start = real_start(row, now, planned)
     if row.cell(Column.FINISHED):
-        end = row.close(Column.FINISHED, row.cell(Column.FINISHED))
-        if end > now:
-            raise row.fault(Column.FINISHED, "an end behind the status date; what has ended is before it")
-        if end < start:
-            raise row.fault(Column.FINISHED, "an end before the start")
-        return start, end - start
+        return start, real_end(row, now, start) - start
     left = what_remains(row, planned)
     if left is None:
         if start + planned <= now and planned:
@@ -69,23 +64,27 @@ def so_far(row: Row, now: int, planned: int) -> tuple[int, int]:
     return start, now - start + left
 
 
+def real_end(row: Row, now: int, start: int) -> int:
+    """What began and ended within a period took no time in periods."""
+    begun, ended = (row.time_in(column, row.cell(column)) for column in (Column.STARTED, Column.FINISHED))
+    end = row.close(Column.FINISHED, row.cell(Column.FINISHED))
+    if end > now:
+        raise row.fault(Column.FINISHED, "an end behind the status date; what has ended is before it")
+    if is_reversed(begun, ended, start, end):
+        raise row.fault(Column.FINISHED, f"'{short(row.cell(Column.FINISHED))}' is before '{short(row.cell(Column.STARTED))}', "
+                        "where it started")
+    return max(start, end)
+
+
 def real_start(row: Row, now: int, planned: int) -> int:
     """What takes no time stands at the end of its day, as everywhere."""
     text = row.cell(Column.STARTED)
     start = row.begin(Column.STARTED, text) if planned else min(now, row.close(Column.STARTED, text))
     if start > now:
         raise row.fault(Column.STARTED, f"'{short(text)}' is behind the status date")
-    if start < 0 or is_before(row, text):
+    if start < 0 or row.is_before_project(Column.STARTED, text):
         raise row.fault(Column.STARTED, f"'{short(text)}' is before the project starts")
     return start
-
-
-def is_before(row: Row, text: str) -> bool:
-    """Whether a date is before the project's first day."""
-    found, calendar = row.time_in(Column.STARTED, text), row.terms.calendar
-    if isinstance(found, int) or calendar is None:
-        return False
-    return found.next() <= calendar.begins(0) if found.is_day else found.at < calendar.begins(0)
 
 
 def what_remains(row: Row, planned: int) -> int | None:

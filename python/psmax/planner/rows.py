@@ -5,13 +5,14 @@ from collections.abc import Sequence
 from dataclasses import dataclass, field
 
 from ..calendars import Calendar
-from ..dates import Moment, read_moment
+from ..dates import FAR, FAR_YEARS, Moment, is_before, read_moment
 from ..letters import short
 from ..project import MOST_UNITS
 from .columns import Column, Columns
 from .csv_text import cell
 from .faults import CellFault, fault_at
 from .quantities import Length, Scale, Unit, number, read_length, time_after
+from .serials import day_of_serial
 
 DATED = (Column.STARTED, Column.FINISHED, Column.NOT_BEFORE, Column.END_BY, Column.DUE)
 YES, NO = ("yes", "y", "x", "true", "ja", "1"), ("", "no", "n", "false", "nein", "0")
@@ -28,7 +29,7 @@ class Terms:
     order: str | None  # of the numbers of a date with slashes
     head_row: int = 1  # the number of the row with the names of the columns
     is_guess: bool = False  # whether the hours of work of a day are those that plan takes where nobody says them
-    rounded: list[str] = field(default_factory=list)  # what is said of dates within a period
+    told: list[str] = field(default_factory=list)  # what is said of cells that are read as something near
 
 
 @dataclass(frozen=True)
@@ -94,6 +95,8 @@ class Row:
     def time_in(self, column: int | Column, text: str) -> int | Moment:
         """A time in periods by a number, which counts what a bare duration does; or a date, which needs a calendar."""
         length = time_after(text, self.terms.scale.own)
+        if length is not None and text.isdigit():
+            return self.time_or_serial(column, text, self.periods(column, length, "'2 d' or a date"))
         if length is not None:
             return self.periods(column, length, "'2 d' or a date")
         try:
@@ -102,23 +105,60 @@ class Row:
             raise self.fault(column, f"'{short(text)}': {fault}") from None
         if self.terms.calendar is None:
             raise self.fault(column, f"'{short(text)}': a date needs --from, the first day of the project")
+        return self.near(column, text, moment, self.terms.calendar)
+
+    def time_or_serial(self, column: int | Column, text: str, periods: int) -> int | Moment:
+        """A number of periods, or what a spreadsheet counts as a day, which is told."""
+        try:
+            found = day_of_serial(text, periods, self.terms.calendar)
+        except ValueError as fault:
+            raise self.fault(column, f"{short(text)} {fault}") from None
+        if found is None or self.terms.calendar is None:
+            return periods
+        self.tell(f"{short(text)} is {found.at.date()}, as a spreadsheet counts days")
+        return self.near(column, text, found, self.terms.calendar)
+
+    def near(self, column: int | Column, text: str, moment: Moment, calendar: Calendar) -> Moment:
+        """The same, where no year was misspelt."""
+        if abs(moment.at - calendar.begins(0)) > FAR:
+            side = "after" if moment.at > calendar.begins(0) else "before"
+            raise self.fault(column, f"'{short(text)}' is more than {FAR_YEARS} years {side} the project's start")
         return moment
 
     def begin(self, column: int | Column, text: str) -> int:
         """The first time that is not before a date."""
-        found, calendar = self.time_in(column, text), self.terms.calendar
-        if isinstance(found, int) or calendar is None:
-            return found if isinstance(found, int) else 0
-        self.tell_rounded(text, found.at, calendar, "its end")
-        return self.bounded(column, text, calendar.from_on(found.at))
+        found = self.time_in(column, text)
+        return found if isinstance(found, int) else self.from_on(column, text, found.at)
 
     def close(self, column: int | Column, text: str) -> int:
         """The last time by which a date is over."""
+        found = self.time_in(column, text)
+        return found if isinstance(found, int) else self.by(column, text, found.next())
+
+    def close_within(self, column: int | Column, text: str) -> int:
+        """The same of a date that is not over before the project starts."""
+        if self.is_before_project(column, text):
+            raise self.fault(column, f"'{short(text)}' is before the project starts")
+        return self.close(column, text)
+
+    def is_before_project(self, column: int | Column, text: str) -> bool:
+        """Whether a date is over before the project starts."""
         found, calendar = self.time_in(column, text), self.terms.calendar
-        if isinstance(found, int) or calendar is None:
-            return found if isinstance(found, int) else 0
-        self.tell_rounded(text, found.next(), calendar, "its begin")
-        return self.bounded(column, text, calendar.by(found.next()))
+        return isinstance(found, Moment) and calendar is not None and is_before(found, Moment(calendar.begins(0), False))
+
+    def from_on(self, column: int | Column, text: str, moment: datetime.datetime) -> int:
+        """The first time that is not before a moment, which this text says."""
+        calendar = self.terms.calendar
+        assert calendar is not None
+        self.tell_rounded(text, moment, calendar, "its end")
+        return self.bounded(column, text, calendar.from_on(moment))
+
+    def by(self, column: int | Column, text: str, moment: datetime.datetime) -> int:
+        """The last time at which all has ended by a moment, which this text says; below 0 before the project."""
+        calendar = self.terms.calendar
+        assert calendar is not None
+        self.tell_rounded(text, moment, calendar, "its begin")
+        return self.bounded(column, text, calendar.by(moment))
 
     def bounded(self, column: int | Column, text: str, time: int) -> int:
         if time > MOST_UNITS:
@@ -128,9 +168,13 @@ class Row:
     def tell_rounded(self, text: str, moment: datetime.datetime, calendar: Calendar, side: str) -> None:
         """A moment within a period counts as one of its sides, which is told once."""
         if moment > calendar.begins(0) and calendar.from_on(moment) > calendar.by(moment):
-            told = f"row {self.number}: {short(text)} is within a period, and counts as {side}"
-            if told not in self.terms.rounded:
-                self.terms.rounded.append(told)
+            self.tell(f"{short(text)} is within a period, and counts as {side}")
+
+    def tell(self, text: str) -> None:
+        """What is said of this row, once."""
+        told = f"{self.terms.file}: row {self.number}: {text}"
+        if told not in self.terms.told:
+            self.terms.told.append(told)
 
     def is_said(self, column: Column) -> bool:
         text = self.cell(column).lower()
@@ -145,6 +189,13 @@ class Group:
 
     name: str
     activities: range  # by their numbers, which stand one after another
+
+
+def is_reversed(first: int | Moment, last: int | Moment, begins: int, ends: int) -> bool:
+    """Whether what goes on from one time to another, which begin and end at these periods, ends before it begins."""
+    if isinstance(first, Moment) and isinstance(last, Moment):
+        return is_before(last, first)
+    return ends < begins
 
 
 def levels(rows: Sequence[Row]) -> list[int]:

@@ -6,13 +6,14 @@ from collections.abc import Mapping
 from dataclasses import dataclass, fields, replace
 
 from ..calendars import Calendar
-from ..dates import ORDERS, is_dated, read_moment
+from ..dates import FAR, FAR_YEARS, ORDERS, is_dated, read_moment
 from ..errors import BadInput
 from ..files import read_text
 from ..letters import short
 from ..project import MOST_UNITS
 from ..work_time import WorkTime, moment, must_be_period
 from .quantities import Scale, Unit, time_after
+from .serials import day_of_serial
 
 FILES = {"holidays": "the file of holidays", "absences": "the table of absences"}  # the settings that name files
 HOURS_OF_WORK = "08:00-12:00,13:00-17:00"  # of a day, where its length is needed and nobody says it
@@ -90,17 +91,30 @@ def calendar(settings: Settings, unit: str, days: frozenset[datetime.date] = fro
 def holidays(settings: Settings) -> frozenset[datetime.date]:
     """A date a line; what stands behind it is a note, and so is a line that begins with #."""
     found: set[datetime.date] = set()
-    faults = []
+    first, faults = moment(settings.first or "", "from", settings.dates).at.date() if settings.holidays else None, []
     for number, line in enumerate(read_text(settings.holidays).splitlines() if settings.holidays else [], 1):
         words = line.split()
         if words and not words[0].startswith("#"):
             try:
-                found.add(read_moment(words[0], settings.dates).at.date())
+                day = read_moment(words[0], settings.dates).at.date()
+                if first is not None and abs(day - first) > FAR:
+                    raise ValueError(f"more than {FAR_YEARS} years from the project's start")
+                found.add(day)
             except ValueError as fault:
                 faults.append(f"{settings.holidays}: line {number}: '{short(words[0])}': {fault}")
     if faults:
         raise BadInput(*faults)
     return frozenset(found)
+
+
+def must_be_periods(text: str, name: str, time: int, found: Calendar | None) -> None:
+    """A number is no day as a spreadsheet counts them."""
+    try:
+        day = day_of_serial(text, time, found) if text.isdigit() else None
+    except ValueError as fault:
+        raise BadInput(f"{name} {short(text)} {fault}") from None
+    if day is not None:
+        raise BadInput(f"{name} {short(text)}: a spreadsheet counts {day.at.date()} so; write that date")
 
 
 def time_of(text: str, name: str, settings: Settings, found: Calendar | None, scale: Scale | None) -> int:
@@ -112,6 +126,7 @@ def time_of(text: str, name: str, settings: Settings, found: Calendar | None, sc
             time = int(text) if scale is None else scale.periods(length)
         except ValueError:
             raise BadInput(f"{name} {short(text)}: no whole number of periods; write a date or '2 d'") from None
+        must_be_periods(text, name, time, found)
     elif found is not None:
         time = found.from_on(moment(text, name, settings.dates).at)
     else:

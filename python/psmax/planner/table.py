@@ -149,7 +149,7 @@ class Reading:
         project, names = self.project((*arcs, *progress.arcs(len(self.rows))), due, called)
         names.ids = {number: row.cell(Column.ID) for number, row in enumerate(self.rows, 1) if row.cell(Column.ID)}
         project = replace(project, dated=tuple(one for one in lags.dated if one.arc in arcs))
-        notes = [*self.said_of_period(), *self.terms.rounded, *(said_of_history(arc, called) for arc in broken)]
+        notes = [*self.said_of_period(), *self.terms.told, *(said_of_history(arc, called) for arc in broken)]
         found = tuple(groups(self.named, self.depth, [place in self.groups for place in range(len(self.named))]))
         return Table(project, names, self.settings, self.terms.calendar, found, lags.activities.mornings, progress,
                      self.terms.scale, tuple(row.number for row in self.rows), tuple(notes))
@@ -221,14 +221,14 @@ class Reading:
                     lags.activities.mornings.setdefault(activity, []).append(begin)
         with self.faults.kept():
             if row.cell(Column.END_BY):
-                lags.arcs.append(Arc(activity, 0, length - row.close(Column.END_BY, row.cell(Column.END_BY))))
+                lags.arcs.append(Arc(activity, 0, length - row.close_within(Column.END_BY, row.cell(Column.END_BY))))
 
     def due(self) -> dict[int, int]:
         found = {}
         for number, row in enumerate(self.rows, 1):
             with self.faults.kept():
                 if row.cell(Column.DUE):
-                    found[number] = row.close(Column.DUE, row.cell(Column.DUE))
+                    found[number] = row.close_within(Column.DUE, row.cell(Column.DUE))
         return found
 
     def no_lags(self, row: Row) -> None:
