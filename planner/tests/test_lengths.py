@@ -138,7 +138,7 @@ class Lengths(InFolder):
         self.assertEqual(plan("compare", longer, answer, new).stdout.splitlines()[:2], [
             "makespan 32 h -> 33 h, 1 h later (2026-03-05 17:00 -> 2026-03-06 09:00)", "lateness 8 h -> 9 h, 1 h later"])
 
-        days = self.file("d.csv", 'activity,days\nstrip,"2,25"\nmend,0.5\n')
+        days = self.file("d.csv", 'activity,days\nstrip,"2,25"\nmend,"0,5"\n')
         rows = plan("write", days, self.file("b.csv", "name,start\nstrip,0\nmend,0\n")).stdout
         self.assertEqual(rows.splitlines()[1:], ['1,strip,0,9,9,2 hours,"2,25 d"', '2,mend,0,2,2,2 hours,"0,5 d"'])
 

@@ -55,7 +55,7 @@ class Predecessors(InFolder):
     def test_the_same_in_words(self) -> None:
         """A decimal comma within a cell of several, and the columns `after` and `at least` for the same."""
         table = self.file("p.csv", f'{HEADS}1,a,1 d,\n2,b,1 d,"1FS+1,5 d"\n3,c,1 d,"1FS+1,5 d; 2SS"\n')
-        other = self.file("q.csv", 'activity,days,after,at least\na,1,,\nb,1,a,"1,5"\nc,1,a,1.5\n,,start of b,\n')
+        other = self.file("q.csv", 'activity,days,after,at least\na,1,,\nb,1,a,"1,5"\nc,1,a,"1,50"\n,,start of b,\n')
         shift = ("--from", "2026-03-02", "--shift", "08:00-16:00")
         for path in (table, other):
             self.assertEqual(plan("read", path, *shift).returncode, 0)
@@ -63,8 +63,8 @@ class Predecessors(InFolder):
 
 
 class Outlines(InFolder):
-    TABLE = """The hall;;;;
-printed on Monday;;;;
+    TABLE = """title;The hall;;;
+# printed on Monday;;;;
 WBS;ID;Task Name;Duration;Predecessors
 1;1;Earthworks;9 d;
 1.1;2;Dig;3 d;

@@ -4,7 +4,7 @@ from .watching import Watching, done
 
 # A German table in Excel's manner, and the same in English. By hand: 1.5 days, 4 hours and 2 days at 8.5 hours are 12.75 + 4 +
 # 17 hours.
-GERMAN = """Stillstand;;;;;;
+GERMAN = """title;Stillstand;;;;;
 from;13.04.2026;;;;;
 workdays;Mo-Sa;;;;;
 shift;06:00-14:30;;;;;
@@ -45,7 +45,7 @@ class ReadBack(InFolder):
     def test_what_is_read_otherwise_says_so(self) -> None:
         """A changed cell changes the line: a duration, a lag, a demand, a calendar, a date."""
         line = self.said(GERMAN)
-        for was, now in (("4 h", "5 h"), ("3FS+1 d", "3FS+2 d"), (";2;1;15.04", ";2;;15.04"), ("workdays;", "Werktage;"),
+        for was, now in (("4 h", "5 h"), ("3FS+1 d", "3FS+2 d"), (";2;1;15.04", ";2;;15.04"), ("workdays;", "Werkzeuge;"),
                          ("15.04.2026", "16.04.2026"), ("holidays;", "frei;"), ("Mo-Sa", "Mo-Fr"), (";3FS", ";2FS")):
             with self.subTest(was):
                 ran = plan("solve", self.file("t.csv", GERMAN.replace(was, now, 1)), "--jobs", "1")

@@ -70,7 +70,7 @@ class Table(InFolder):
 
     def test_rows_above_the_table(self) -> None:
         """Titles, and what holds for the project: by hand, from Friday on, the second job begins on the Wednesday after."""
-        above = "The hall,,\nfrom,2026-03-06,\nWorkdays:,Mo-Fr,\n,,\n"
+        above = "title,The hall,\nfrom,2026-03-06,\nWorkdays:,Mo-Fr,\n,,\n"
         table = self.file("above.csv", above + TABLE)
         self.assertIn("2,lift roof,3,4,7,2026-03-11,2026-03-16", plan("write", table, self.answer).stdout)
         self.assertIn("2026-03-14", plan("write", table, self.answer, "--workdays", "mon-sun", "--from", "2026-03-08").stdout)

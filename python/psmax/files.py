@@ -1,4 +1,5 @@
 """Files: read with a clear fault, written whole or not at all, and looked at for changes."""
+import codecs
 import os
 import pathlib
 import sys
@@ -12,6 +13,7 @@ from .errors import BadInput, Failed
 STANDARD_INPUT = "/dev/stdin"  # where an answer comes from that is in no file
 DASH = "-"  # what standard input is called by words of the command
 MARK = b"\xef\xbb\xbf"  # the byte order mark of UTF-8
+PAGE = "cp1252"  # of Windows in the west of Europe
 LARGEST = 16_777_216  # bytes; psmax reads no longer text, so one byte more is enough to know
 
 
@@ -44,17 +46,42 @@ def read_input(path: str | None) -> bytes:
 
 
 def read_text(path: str) -> str:
-    """The text of a UTF-8 file; a byte order mark is dropped."""
+    """The text of a file, without a byte order mark."""
     data = read_bytes(path)
     if len(data) > LARGEST:
         raise BadInput(f"{path}: too long")
     if data.startswith(b"PK\x03\x04"):
         raise BadInput(f"{path}: a spreadsheet file, not a table in text; save it as CSV")
     try:
-        return data.decode("utf-8-sig")
+        return decode(data)
     except UnicodeDecodeError as fault:
         line = data.count(b"\n", 0, fault.start) + 1
         raise BadInput(f"{path}: line {line} is not UTF-8; save the table as CSV in UTF-8") from None
+
+
+def decode(data: bytes) -> str:
+    """By the byte order mark UTF-16, else UTF-8, else code page 1252, in which Excel for Windows writes CSV. UnicodeDecodeError
+    where a text is none of these."""
+    if data.startswith((codecs.BOM_UTF16_LE, codecs.BOM_UTF16_BE)):
+        return data.decode("utf-16")
+    return data.decode(PAGE if is_in_code_page(data) else "utf-8-sig")
+
+
+def is_in_code_page(data: bytes) -> bool:
+    """Whether a text without a mark may be in code page 1252, since it is no UTF-8."""
+    try:
+        data.decode("utf-8-sig")
+    except UnicodeDecodeError:
+        return b"\0" not in data
+    return False
+
+
+def decoded(data: bytes) -> str:
+    """The same, with a sign for what is none."""
+    try:
+        return decode(data)
+    except UnicodeDecodeError:
+        return data.decode("utf-8-sig", "replace")
 
 
 def must_be_writable(path: str) -> None:

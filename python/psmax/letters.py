@@ -1,4 +1,5 @@
-"""Texts that others wrote, as they are shown."""
+"""Texts that others wrote, as they are read and shown."""
+import unicodedata
 
 LONGEST = 60  # letters of a text that are shown
 MOST_TOLD = 20  # faults of one file
@@ -7,6 +8,11 @@ MOST_TOLD = 20  # faults of one file
 def printable(text: str) -> str:
     """The text with a ? for each sign that can't be printed."""
     return "".join(sign if sign.isprintable() else "?" for sign in text)
+
+
+def composed(text: str) -> str:
+    """The text with each letter and its marks as one sign, however they were typed (Unicode's NFC)."""
+    return unicodedata.normalize("NFC", text)
 
 
 def escaped(name: str) -> str:

@@ -16,14 +16,23 @@ PERIOD = re.compile(r"([1-9][0-9]{0,5}) (minutes|hours)")
 
 @dataclass(frozen=True)
 class WorkTime:
-    """Each as people write it, such as `2026-03-02`, `days`, `mon-fri` and `08:00-12:00,13:00-17:00`."""
+    """Each as people write it, such as `2026-03-02`, `days`, `mon-fri` and `08:00-12:00,13:00-17:00`. Holidays may be dates or
+    such texts, and become dates."""
 
     first: str  # the day or the moment at which the project starts
     period: str = "days"
     workdays: str | None = None
-    holidays: Collection[datetime.date] = ()
+    holidays: Collection[datetime.date | str] = ()
     shift: str | None = None
     zone: str | None = None
+
+    def __post_init__(self) -> None:
+        object.__setattr__(self, "holidays", self.free_days)
+
+    @property
+    def free_days(self) -> tuple[datetime.date, ...]:
+        """The holidays as dates, in their order."""
+        return tuple(sorted({*map(day, self.holidays)}))
 
     def calendar(self, order: str | None = None) -> Calendar:
         """The dates of the periods. `order` is that of numbers between slashes in dates."""
@@ -37,8 +46,16 @@ class WorkTime:
                            f"{self.period}; with --shift, the hours of work, there are days off too")
         if minutes < MINUTES["days"] and self.shift is None:
             return Moments(first, minutes, zone(self.zone))
-        days = Days(first.date(), max(1, minutes // MINUTES["days"]), workdays(self.workdays), frozenset(self.holidays))
+        days = Days(first.date(), max(1, minutes // MINUTES["days"]), workdays(self.workdays), frozenset(self.free_days))
         return days if minutes >= MINUTES["days"] else Shifts(first, minutes, days, shift(self.shift, minutes))
+
+
+def day(value: datetime.date | str) -> datetime.date:
+    if isinstance(value, str):
+        return moment(value, "holidays", None).at.date()
+    if isinstance(value, datetime.date):
+        return value.date() if isinstance(value, datetime.datetime) else value
+    raise BadInput(f"holidays: no date such as 2026-03-02: {short(repr(value))}")
 
 
 def must_be_period(text: str) -> None:

@@ -1,4 +1,5 @@
 """The formats: round trips of generated projects, known optima, damaged texts, and what each refuses."""
+import datetime
 import json
 import pathlib
 import random
@@ -52,6 +53,21 @@ class Formats(InFolder):
                     self.assertEqual(vars(again.numbers()) | {"arcs": 0}, vars(project.numbers()) | {"arcs": 0})
                     self.assertEqual([one.name for one in again.activities], [one.name for one in project.activities])
                     self.assertEqual((again.work_time, again.text(name)), (project.work_time, text))
+
+    def test_holidays(self) -> None:
+        """As dates or as texts, they are the same days off. By hand, from Thursday 5 March 2026 on: with Friday off three days
+        end on Tuesday."""
+        days: list[Any] = [["2026-03-06"], {"06.03.2026"}, [datetime.date(2026, 3, 6)], [datetime.datetime(2026, 3, 6, 8)]]
+        for holidays in days:
+            with self.subTest(holidays):
+                project = psmax.Project()
+                project.activity("dig", 3)
+                project.work_time = psmax.WorkTime("2026-03-05", workdays="mon-fri", holidays=holidays)
+                self.assertEqual(project.work_time.calendar().times(0, 3), ("2026-03-05", "2026-03-10"))
+                self.assertEqual(psmax.Project.read(project.text("json").encode()).work_time, project.work_time)
+        for odd in (["soon"], [6]):
+            with self.subTest(odd), self.assertRaisesRegex(psmax.BadInput, "holidays"):
+                psmax.WorkTime("2026-03-05", holidays=odd)  # type: ignore[arg-type]
 
     def test_known_optima(self) -> None:
         for name, (kind, makespan) in KNOWN.items():

@@ -5,8 +5,8 @@ from collections.abc import Callable
 from dataclasses import dataclass
 
 from ..errors import BadInput
-from ..files import LARGEST
-from ..letters import short
+from ..files import LARGEST, decoded
+from ..letters import composed, short
 from ..model import Parts
 from . import job_shop, json_text, mspdi, mspdi_text, rcp, sch, sm, taillard
 
@@ -53,7 +53,7 @@ def read(data: bytes, project: Parts, called: str, name: str | None = None) -> F
     """Reads a project into an empty one. Faults begin with what the text is called."""
     if len(data) > LARGEST:
         raise BadInput(f"{called}: too long")
-    text = data.decode("utf-8-sig", "replace")
+    text = composed(decoded(data))
     try:
         one = found(text) if name is None else named(name)
         one.read(text, project)

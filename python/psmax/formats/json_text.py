@@ -151,7 +151,7 @@ def write(project: Parts) -> str:
     told: dict[str, object] = {"format": KIND} | ({"name": project.name} if project.name else {})
     if project.work_time is not None:
         time = {key: value for key, value in vars(project.work_time).items() if value}
-        told["work time"] = time | ({"holidays": [f"{day}" for day in sorted(project.work_time.holidays)]}
+        told["work time"] = time | ({"holidays": [f"{day}" for day in project.work_time.free_days]}
                                     if project.work_time.holidays else {})
     told["resources"] = [{"name": one.name, "capacity": one.capacity} for one in project.resources]
     told["activities"] = [activity_object(one) for one in project.activities]

@@ -32,7 +32,7 @@ def write(project: Parts) -> str:
     texts = {"Name": project.name, "Title": project.name, "StartDate": stamp(calendar.begins(0)), "CalendarUID": "1",
              "MinutesPerDay": f"{sum(ends - begins for begins, ends in read_shift(time.shift))}"}
     add(root, {name: text for name, text in texts.items() if text})
-    add_calendar(root, time.workdays or "mon-sun", time.shift, time.holidays)
+    add_calendar(root, time.workdays or "mon-sun", time.shift, time.free_days)
     tasks = SubElement(root, "Tasks")
     for activity in project.activities:
         add_task(SubElement(tasks, "Task"), project, activity, calendar, minutes)

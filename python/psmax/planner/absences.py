@@ -7,6 +7,7 @@ from ..letters import short
 from ..project import Absence, Project
 from .columns import HEADS, Column, Columns
 from .csv_text import cell, read_sheet
+from .decimals import with_one_sign
 from .faults import Faults, fault_at
 from .lags import did_you_mean
 from .names import Names
@@ -29,6 +30,7 @@ def read_absences(path: str, project: Project, names: Names, terms: Terms) -> li
                 raise fault_at(path, sheet.head_row, place, head, "not a column of absences, which are resource, from, to, "
                                "units and notes")
     columns = Columns(sheet.heads)
+    sheet = with_one_sign(path, sheet, {Column.STARTED: places["from"], Column.FINISHED: places["to"]}, faults)
     for number, cells in sheet.numbered():
         row = Row(replace(terms, file=path, columns=columns), number, cells)
         with faults.kept():

@@ -6,8 +6,8 @@ from dataclasses import dataclass, field
 
 from ..dates import is_dated
 from ..errors import BadInput
-from ..files import LARGEST, read_input
-from ..letters import short
+from ..files import LARGEST, decoded, read_input
+from ..letters import composed, short
 from .columns import is_head
 from .csv_text import Sheet, cell, letters, read_sheet
 
@@ -78,7 +78,7 @@ def read_answer(path: str | None) -> AnswerText:
 def answer_of(data: bytes, called: str) -> AnswerText:
     if len(data) > LARGEST:
         raise BadInput(f"{called}: too long")
-    text = data.decode("utf-8-sig", "replace")
+    text = decoded(data)
     sheet = named_sheet(text)
     if sheet is not None and "start" in map(str.lower, sheet.heads):
         return from_sheet(sheet, called)
@@ -104,7 +104,7 @@ def from_lines(text: str, called: str, activities: Mapping[str, object]) -> Answ
     if not isinstance(names, list) or not isinstance(durations, list) or not all(type(one) is int for one in durations):
         raise BadInput(f"{called}: line 1: what it says of the activities can't be read")
     starts = starts_in(lines[1:], 2, called)
-    named = {i: f"{name}" for i, name in enumerate(names, 1)} if any(names) else {}
+    named = {i: composed(f"{name}") for i, name in enumerate(names, 1)} if any(names) else {}
     takes, period = {i: length for i, length in enumerate(durations, 1)}, str(activities.get(PERIOD) or "")
     return AnswerText(called, begins(starts), named, takes, period, short(said))
 

@@ -8,7 +8,7 @@ from ..letters import short
 from ..project import MOST_RESOURCES, MOST_UNITS
 from .csv_text import Sheet
 from .faults import Faults, fault_at
-from .quantities import Unit
+from .quantities import WORDS, Unit
 
 RESOURCE = re.compile(r"(.*\S)\s*\(\s*(\d+)\s*\)")
 
@@ -38,26 +38,26 @@ class Column(Enum):
     RESOURCE = "resource"
 
 
-HEADS = {head: column for column, heads in (
-    (Column.NAME, "activity, name, task name, task"),
-    (Column.DURATION, "duration, weeks, days, hours, minutes, periods"),
-    (Column.ID, "id, no, no., nr, nr."),
-    (Column.PREDECESSORS, "predecessors, predecessor"),
-    (Column.AFTER, "after"),
-    (Column.AT_LEAST, "at least"),
-    (Column.AT_MOST, "at most"),
-    (Column.NOT_BEFORE, "not before"),
-    (Column.END_BY, "end by"),
-    (Column.DUE, "due, due date"),
-    (Column.STARTED, "started, actual start"),
-    (Column.FINISHED, "finished, actual finish"),
-    (Column.REMAINING, "remaining, remaining duration"),
-    (Column.DONE, "done, done %, done (%), % done, % complete"),
-    (Column.WBS, "wbs, outline number"),
-    (Column.LEVEL, "outline level, level"),
-    (Column.SUMMARY, "summary"),
-    (Column.NOTE, "note, notes, remark, remarks, comment, comments"),
-    (Column.COMPUTED, "start, end, finish, first day, last day"),
+HEADS = {head: column for column, heads in (  # in English, then in German
+    (Column.NAME, "activity, name, task name, task, vorgang, vorgangsname, aktivität, tätigkeit, arbeitsgang, aufgabe"),
+    (Column.DURATION, "duration, weeks, days, hours, minutes, periods, dauer, wochen, tage, stunden, minuten"),
+    (Column.ID, "id, no, no., #, nr, nr., nummer"),
+    (Column.PREDECESSORS, "predecessors, predecessor, vorgänger"),
+    (Column.AFTER, "after, nach"),
+    (Column.AT_LEAST, "at least, mindestens"),
+    (Column.AT_MOST, "at most, höchstens"),
+    (Column.NOT_BEFORE, "not before, nicht vor, frühestens"),
+    (Column.END_BY, "end by, ende bis"),
+    (Column.DUE, "due, due date, fällig, fällig am"),
+    (Column.STARTED, "started, actual start, begonnen, tatsächlicher anfang"),
+    (Column.FINISHED, "finished, actual finish, beendet, tatsächliches ende"),
+    (Column.REMAINING, "remaining, remaining duration, rest, verbleibende dauer"),
+    (Column.DONE, "done, done %, done (%), % done, % complete, erledigt, % abgeschlossen"),
+    (Column.WBS, "wbs, outline number, psp-code, gliederungsnummer"),
+    (Column.LEVEL, "outline level, level, gliederungsebene"),
+    (Column.SUMMARY, "summary, sammelvorgang, gruppe"),
+    (Column.NOTE, "note, notes, remark, remarks, comment, comments, notiz, notizen, bemerkung, bemerkungen, kommentar"),
+    (Column.COMPUTED, "start, end, finish, first day, last day, anfang, ende"),
 ) for head in heads.split(", ")}
 MANY = (Column.NOTE, Column.COMPUTED, Column.RESOURCE)  # of which a table may have several
 LAGS = (Column.AFTER, Column.AT_LEAST, Column.AT_MOST, Column.PREDECESSORS)
@@ -74,7 +74,7 @@ class Columns:
     def unit(self) -> Unit:
         """What a bare duration counts."""
         head = self.heads[self.places[Column.DURATION]].lower()
-        return Unit.PERIODS if head == "duration" else Unit(head)
+        return Unit.PERIODS if head in ("duration", "dauer") else WORDS[head]
 
 
 def column_of(head: str) -> Column | None:
@@ -85,6 +85,11 @@ def column_of(head: str) -> Column | None:
 def is_head(row: list[str]) -> bool:
     """Whether a row names the columns of a table of activities."""
     return {Column.NAME, Column.DURATION} <= {column_of(head) for head in row}
+
+
+def count_heads(row: list[str]) -> int:
+    """How many columns of a table of activities a row names."""
+    return len({column_of(head) for head in row} - {None})
 
 
 def read_heads(file: str, sheet: Sheet, faults: Faults) -> Columns:

@@ -6,12 +6,14 @@ from collections.abc import Callable, Iterable, Sequence
 from dataclasses import dataclass
 
 from ..errors import BadInput
+from ..letters import composed
 
 SEPARATORS = {"comma": ",", "semicolon": ";", "tab": "\t"}
 SEP_LINE = re.compile(r'"?sep=(.)"?[ ,;\t]*\r?\n', re.I)  # what a spreadsheet puts first to tell the separator
 MOST_TITLES = 40  # rows above the columns
 FORCED = re.compile(r'="(?:[^"]|"")*"')
 ODD = re.compile(r"[-=+@\t\r]|[^\w\s]*\d|[^\W\d_]+[\s./-]*\d+(?:[\s.,/-]+\d+)?$|(?:true|false|wahr|falsch)$", re.I)
+ODD_BLANKS = re.compile(r"[^\S ]+")
 MARK = "\ufeff"  # the byte order mark, by which a spreadsheet knows that a text is UTF-8
 
 
@@ -49,16 +51,17 @@ def cell(row: Sequence[str], column: int | None) -> str:
     return row[column] if column is not None and column < len(row) else ""
 
 
-def read_sheet(file: str, text: str, names_columns: Callable[[list[str]], bool] = lambda row: True) -> Sheet:
+def read_sheet(file: str, text: str, names_columns: Callable[[list[str]], bool] = lambda row: True,
+               count_heads: Callable[[list[str]], int] = lambda row: 0) -> Sheet:
     """The separator is the one that a line `sep=` tells, else the one of comma, semicolon and tab that most rows have at
-    least once. The first row that names the columns is asked for; where none does, it is row 1. Heads have one blank between
-    words."""
-    text = text.removeprefix(MARK)
+    least once. The first row that names the columns is asked for; where none does, it is the first one that has most of their
+    names. Heads have one blank between words."""
+    text = composed(text.removeprefix(MARK))
     told = SEP_LINE.match(text)
     text = text[told.end() :] if told else text
     separator = told[1] if told else separator_of(text, names_columns)
     rows = split(file, text, separator)
-    place = head_of(rows, names_columns)
+    place = head_of(rows, names_columns, count_heads)
     if not rows or not any(rows[place]):
         raise BadInput(f"{file}: row 1 is empty; it must name the columns")
     return Sheet(heads(rows[place]), rows[place + 1 :], separator, rows[:place])
@@ -79,13 +82,15 @@ def separator_of(text: str, names_columns: Callable[[list[str]], bool]) -> str:
 def split(file: str, text: str, separator: str) -> list[list[str]]:
     try:
         found = csv.reader(io.StringIO(text, newline=""), delimiter=separator, strict=True)
-        return [[shown(one.strip()) for one in row] for row in found]
+        return [[plain(shown(one.strip())) for one in row] for row in found]
     except (csv.Error, ValueError) as fault:
         raise BadInput(f"{file}: not a table in CSV: {fault}") from None
 
 
-def head_of(rows: list[list[str]], names_columns: Callable[[list[str]], bool]) -> int:
-    return next((place for place, row in enumerate(rows[:MOST_TITLES]) if names_columns(heads(row))), 0)
+def head_of(rows: list[list[str]], names_columns: Callable[[list[str]], bool], count_heads: Callable[[list[str]], int]) -> int:
+    first = rows[:MOST_TITLES]
+    nearest = max(range(len(first)), key=lambda place: (count_heads(heads(first[place])), -place), default=0)
+    return next((place for place, row in enumerate(first) if names_columns(heads(row))), nearest)
 
 
 def heads(row: list[str]) -> list[str]:
@@ -95,6 +100,11 @@ def heads(row: list[str]) -> list[str]:
 def shown(cell: str) -> str:
     """What a spreadsheet shows of a cell that it is told to take for a text: `="2-3"` is 2-3."""
     return cell[2:-1].replace('""', '"') if FORCED.fullmatch(cell) else cell
+
+
+def plain(cell: str) -> str:
+    """The cell with a blank for each line break and each blank of another kind."""
+    return ODD_BLANKS.sub(" ", cell)
 
 
 class Text(str):

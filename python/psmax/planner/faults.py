@@ -36,9 +36,10 @@ class Faults:
             self.found.append(fault)
 
     def tell(self) -> None:
+        """Of each cell the first; what else it has may follow from that."""
         if self.found:
-            texts = [str(fault) for fault in sorted(self.found, key=lambda fault: fault.place)]
-            raise BadInput(*at_most(list(dict.fromkeys(texts))))
+            first = {fault.place: str(fault) for fault in reversed(self.found)}
+            raise BadInput(*at_most([first[place] for place in sorted(first)]))
 
 
 def explained(fault: BaseException) -> tuple[int, tuple[str, ...]]:

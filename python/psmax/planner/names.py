@@ -3,6 +3,7 @@ second one, which says from when on and on which days there is work."""
 import re
 from dataclasses import dataclass, field, replace
 
+from ..letters import composed
 from ..project import Project
 from .settings import NAMES as SETTINGS
 
@@ -39,7 +40,7 @@ class Names:
 
 
 def read_page(data: bytes) -> Names:
-    text = data.decode("utf-8", "replace")
+    text = composed(data.decode("utf-8", "replace"))
     found = Names()
     rows = [[cell_text(cell) for cell in CELL.split(line)[1:-1]] for line in text.splitlines() if line.startswith("|")]
     for place, row in enumerate(rows):

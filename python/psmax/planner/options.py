@@ -140,6 +140,7 @@ def add_settings(one: argparse.ArgumentParser) -> None:
     project.add_argument("--absences", metavar="FILE", help="a table of what is away when: resource, from, to, units")
     project.add_argument("--status", metavar="DATE", help="the day at which the table says how far the project has come")
     project.add_argument("--minimize", choices=GOALS, help="what is minimized (default: makespan)")
+    project.add_argument("--title", metavar="TEXT", help="what the project is called (default: as its file and folder)")
 
 
 def settings(options: argparse.Namespace) -> Settings:

@@ -33,6 +33,11 @@ class Progress:
                 if told and self.now is not None:
                     self.started[number], durations[number - 1] = so_far(row, self.now, durations[number - 1])
 
+    def waiting(self, durations: Sequence[int]) -> list[int]:
+        """What takes no time and was not reached by the status date. There it stands at that day, and not at the end of the
+        work before it, which is over."""
+        return [i for i, length in enumerate(durations, 1) if self.now and not length and i not in self.started]
+
     def arcs(self, count: int) -> list[Arc]:
         """By which what has started stays, and the rest starts from now on."""
         if self.now is None:

@@ -10,8 +10,9 @@ from ..calendars import Calendar
 from ..clock import Clock
 from ..date_style import decimal_sign, style_of
 from ..errors import BadInput
-from ..files import LARGEST, read_bytes, read_text
+from ..files import LARGEST, decoded, is_in_code_page, read_bytes, read_text
 from ..formats import FORMATS, read
+from ..formats.sch import CTRL_Z
 from ..project import Goal
 from ..project import Project as Numbers
 from ..api import Project
@@ -26,6 +27,7 @@ from .progress import Progress
 from .settings import Settings, calendar, checked, from_rows, time_of
 from .table import Table, read_table
 
+BLANK = " \t\r\n"
 PROJECT = re.compile(rb"\s*\d+[ \t]+\d+[ \t]+0[ \t]+0\s")
 
 
@@ -107,14 +109,17 @@ def open_project(path: str, words: Settings = Settings(), page: str | None = Non
     data = read_bytes(path)
     if data.startswith(b"PK\x03\x04"):
         raise BadInput(f"{path}: this is a spreadsheet file, and no project; save its table as CSV")
-    text = data.decode("utf-8-sig", "replace")
+    text = decoded(data)
     if text.startswith(WITH_STARTS) or (not is_table(path, text) and answer_sheet(text) is not None):
         raise BadInput(f"{path}: this is an answer, and no project")
     if is_table(path, text):
         return open_table(path, words, page)
     if is_other(text):
         return open_other(path, data, words, page)
-    return open_text(path, data, words, page)
+    if not FORMATS["sch"].is_like(text) and not path.lower().endswith(FORMATS["sch"].suffixes):
+        raise BadInput(f"{path}: no table of activities, and no text of a project that plan knows, which is one of "
+                       f"{', '.join(FORMATS)}")
+    return open_text(path, text.rstrip(BLANK + CTRL_Z).encode() + b"\n", words, page)
 
 
 def is_other(text: str) -> bool:
@@ -131,7 +136,7 @@ def open_other(path: str, data: bytes, words: Settings, page: str | None) -> Pro
     if made.work_time is not None:
         time = made.work_time
         told = Settings(time.first, time.period, time.workdays, shift=time.shift, zone=time.zone)
-        names.unit, days = time.period, frozenset(time.holidays)
+        names.unit, days = time.period, frozenset(time.free_days)
     if page is not None:
         words = words.over(from_rows(read_page(read_bytes(page)).settings, os.path.dirname(page)))
     settings = checked(words.over(told))
@@ -162,7 +167,7 @@ def is_table(path: str, text: str) -> bool:
 def has_activities(path: str) -> bool:
     """Whether a file is a table of activities, by its columns."""
     try:
-        return is_head(read_sheet(path, read_bytes(path).decode("utf-8", "replace"), is_head).heads)
+        return is_head(read_sheet(path, decoded(read_bytes(path)), is_head).heads)
     except BadInput:
         return False
 
@@ -170,7 +175,7 @@ def has_activities(path: str) -> bool:
 def is_project(path: str) -> bool:
     """Whether a file is a project text of any format, and no answer."""
     data = read_bytes(path)
-    text = data.decode("utf-8-sig", "replace")
+    text = decoded(data)
     return (len(data) <= LARGEST and not text.startswith(WITH_STARTS) and not is_starts(text)
             and any(one.is_like(text) for one in FORMATS.values()))
 
@@ -181,6 +186,8 @@ def open_table(path: str, words: Settings, page: str | None = None) -> ProjectFi
         words = words.over(from_rows(read_page(read_bytes(page)).settings, os.path.dirname(page)))
     text = read_text(path)
     found = read_table(path, text, words, os.path.dirname(path))
+    if is_in_code_page(read_bytes(path)):
+        found = replace(found, notes=(f"{path} is no UTF-8, and is read in code page 1252, that of Windows", *found.notes))
     return of_table(path, found, {"the table": path} | ({} if page is None else {"the page of names": page}), text)
 
 
@@ -237,4 +244,4 @@ def made_of(path: str, data: bytes, names: Names, told: Settings, words: Setting
 
 def is_answer(path: str) -> bool:
     """Whether a file is an answer in CSV, which is no table of activities."""
-    return os.path.isfile(path) and answer_sheet(read_bytes(path).decode("utf-8", "replace")) is not None
+    return os.path.isfile(path) and answer_sheet(decoded(read_bytes(path))) is not None

@@ -8,7 +8,7 @@ from .. import formats
 from ..api import Project
 from ..clock import Clock
 from ..errors import BadInput
-from ..files import DASH, guard, read_bytes, read_text, write_whole
+from ..files import DASH, decoded, guard, read_bytes, read_text, write_whole
 from ..letters import printable
 from ..project import Goal, too_needy
 from ..project_text import ProjectText
@@ -30,7 +30,7 @@ MODES = f"; a PSPLIB set with several modes for an activity (MRCPSP/max) is anot
 
 def read(path: str, out: str | None, wanted: str | None, words: Settings) -> int:
     """By what the file holds; a name that ends in .sch says that it is none of a table."""
-    text = read_bytes(path).decode("utf-8-sig", "replace")
+    text = decoded(read_bytes(path))
     is_sch = pathlib.Path(path).suffix.lower() == PSPLIB or formats.FORMATS["sch"].is_like(text)
     if wanted is None and out is not None and pathlib.Path(out).suffix.lower() in OTHERS:
         wanted = formats.of_file(out)

@@ -2,20 +2,16 @@
 an answer the settings with their rows, the calendar of the first three weeks, and absences by day. Whatever a table says
 changes some figure of the line."""
 import datetime
-import os
 from collections.abc import Iterator
-from dataclasses import fields, replace
+from dataclasses import fields
 
 from ..calendars import DAY, Calendar, Days, Shifts, at_midnight
 from ..date_style import weekday
 from ..dates import DAYS as NAMES_OF_DAYS
-from ..files import read_text
 from ..project import Arc, least_starts
-from .columns import is_head
-from .csv_text import read_sheet
+from .above import Above
 from .project_file import ProjectFile
-from .settings import called
-from .table import settings_above
+from .settings import Settings, called
 from .wording import Words
 
 NOT_BEFORE = "'not before'"
@@ -147,21 +143,19 @@ def below(head: str, lines: list[str]) -> list[str]:
 
 def settings_read(file: ProjectFile) -> list[str]:
     """Each setting, with the row that says it; without where the command line or a page does."""
-    rows = dict(settings_rows(file)) if file.table is not None else {}
+    rows = dict(settings_rows(file.table.above, file.settings)) if file.table is not None else {}
     told = [(called(field.name), getattr(file.settings, field.name)) for field in fields(file.settings)]
     found = [(name, text, f"   row {rows[name]}" if name in rows else "") for name, text in told if text is not None]
     wide = max([0, *(len(name) for name, _, _ in found)])
     return [f"{name:{wide}}  {text}{row}" for name, text, row in found]
 
 
-def settings_rows(file: ProjectFile) -> Iterator[tuple[str, int]]:
+def settings_rows(above: Above, settings: Settings) -> Iterator[tuple[str, int]]:
     """The number of the row above the table that says a setting."""
-    sheet, folder = read_sheet(file.path, read_text(file.path), is_head), os.path.dirname(file.path)
-    for number, row in enumerate(sheet.above, 1):
-        alone = settings_above(file.path, replace(sheet, above=[[""]] * (number - 1) + [row]), folder)
-        yield from ((called(field.name), number) for field in fields(alone)
-                    if getattr(alone, field.name) not in (None, "") and
-                    getattr(alone, field.name) == getattr(file.settings, field.name))
+    for field in fields(settings):
+        text = getattr(above.settings, field.name)
+        if text is not None and text == getattr(settings, field.name):
+            yield called(field.name), above.rows[called(field.name)]
 
 
 def weeks(file: ProjectFile, found: Calendar) -> list[str]:

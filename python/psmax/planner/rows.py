@@ -5,7 +5,7 @@ from collections.abc import Sequence
 from dataclasses import dataclass, field
 
 from ..calendars import Calendar
-from ..dates import FAR, FAR_YEARS, Moment, is_before, read_moment
+from ..dates import FAR, FAR_YEARS, Moment, is_before, is_dated, read_moment
 from ..letters import short
 from ..project import MOST_UNITS
 from .columns import Column, Columns
@@ -15,6 +15,8 @@ from .quantities import Length, Scale, Unit, number, read_length, time_after
 from .serials import day_of_serial
 
 DATED = (Column.STARTED, Column.FINISHED, Column.NOT_BEFORE, Column.END_BY, Column.DUE)
+MONTHS = "jan feb mar mär mrz apr may mai jun jul aug sep oct okt nov dec dez"
+MONTH = re.compile(rf"\b(?:{'|'.join(MONTHS.split())})\b", re.I)
 YES, NO = ("yes", "y", "x", "true", "ja", "1"), ("", "no", "n", "false", "nein", "0")
 
 
@@ -47,6 +49,15 @@ class Row:
     def fault(self, column: int | Column, text: str) -> CellFault:
         place = column if isinstance(column, int) else self.terms.columns.places[column]
         return fault_at(self.terms.file, self.number, place, cell(self.terms.columns.heads, place), text)
+
+    def must_be_below_heads(self) -> None:
+        """No cell stands in a column without a name."""
+        heads = self.terms.columns.heads
+        odd = next((place for place, text in enumerate(self.cells) if text and not cell(heads, place)), None)
+        if odd is not None and odd < len(heads):
+            raise self.fault(odd, "a cell in a column without a name; a column of your own words is called notes")
+        if odd is not None:
+            raise self.fault(odd, "a cell beyond the last column; names in one cell have ';' between them")
 
     def units(self, place: int) -> int:
         """The demand in a cell; empty is none."""
@@ -198,15 +209,17 @@ def is_reversed(first: int | Moment, last: int | Moment, begins: int, ends: int)
     return ends < begins
 
 
-def levels(rows: Sequence[Row]) -> list[int]:
-    """How deep each row stands, by its outline level or else its code; all alike where there is neither."""
-    found = []
-    for row in rows:
-        told = row.cell(Column.LEVEL)
-        if told and not told.isdecimal():
-            raise row.fault(Column.LEVEL, "a whole number is missing")
-        found.append(int(told) if told else len([part for part in row.cell(Column.WBS).split(".") if part]))
-    return found
+def level(row: Row) -> int:
+    """How deep a row stands, by its outline level or else its code; 0 where there is neither."""
+    told, code = row.cell(Column.LEVEL), row.cell(Column.WBS)
+    if told and not told.isdecimal():
+        raise row.fault(Column.LEVEL, "a whole number is missing")
+    if is_dated(code) or MONTH.search(code):
+        raise row.fault(Column.WBS, f"'{short(code)}' is no code such as 1.2, but the date that a spreadsheet made of it; "
+                        "format the column as text")
+    if "," in code:
+        raise row.fault(Column.WBS, f"'{short(code)}' is no code such as 1.2, which has points")
+    return int(told) if told else len([part for part in code.split(".") if part])
 
 
 def is_summary(rows: Sequence[Row], depth: Sequence[int], place: int) -> bool:

@@ -34,6 +34,7 @@ class Settings:
     absences: str | None = None
     status: str | None = None
     minimize: str | None = None
+    title: str | None = None
 
     def over(self, other: "Settings") -> "Settings":
         """These, and where they say nothing the others."""

@@ -1,5 +1,4 @@
 """Tables of activities in CSV: docs/PLANNER.md says what the columns are. Faults name the row and the column."""
-import difflib
 from collections.abc import Iterable, Sequence
 from contextlib import suppress
 from dataclasses import dataclass, replace
@@ -11,16 +10,18 @@ from ..errors import BadInput
 from ..letters import printable, short
 from ..project import MOST_ACTIVITIES, MOST_ARCS, Arc, Goal, Project
 from ..work_time import minutes_of, shift, workdays
+from .above import Above, read_above
 from .absences import read_absences
-from .columns import LAGS, Column, Columns, is_head, read_heads, resource
+from .columns import LAGS, Column, Columns, count_heads, is_head, read_heads, resource
 from .csv_text import Sheet, cell, read_sheet
-from .faults import Faults, fault_at
+from .decimals import with_one_sign
+from .faults import Faults
 from .lags import START, START_OF, WITH, Activities, Lags, lengths_in
 from .names import Names
 from .progress import Progress
 from .quantities import Length, Scale, Unit, read_length, scale_of, units_of
-from .rows import Group, Row, Terms, groups, is_summary, levels
-from .settings import HOURS_OF_WORK, NAMES, Settings, calendar, checked, from_rows, time_of
+from .rows import Group, Row, Terms, groups, is_summary, level
+from .settings import HOURS_OF_WORK, Settings, calendar, checked, time_of
 
 
 @dataclass(frozen=True)
@@ -37,36 +38,25 @@ class Table:
     scale: Scale
     rows: tuple[int, ...]  # in which the activities stand, as a spreadsheet numbers them
     notes: tuple[str, ...]  # what is to be said of it before anything is done with it
+    above: Above
 
 
 def read_table(file: str, text: str, words: Settings, folder: str, page: Settings = Settings()) -> Table:
     """The words of the command go over the rows above the table, and these over the page of names."""
-    sheet, faults = read_sheet(file, text, is_head), Faults()
-    settings = checked(words.over(settings_above(file, sheet, folder)).over(page))
+    sheet, faults = read_sheet(file, text, is_head, count_heads), Faults()
+    above = read_above(file, sheet, folder)
+    settings = checked(words.over(above.settings).over(page))
+    above.must_have_files(file, settings)
     columns = read_heads(file, sheet, faults)
-    terms = terms_of(file, sheet, columns, settings)
-    if terms.is_guess and settings.first is not None:
-        settings = replace(settings, shift=HOURS_OF_WORK)
-    reading = Reading(terms, settings, faults)
-    for number, cells in sheet.numbered():
-        reading.add_row(Row(terms, number, cells))
-    return reading.table()
-
-
-def settings_above(file: str, sheet: Sheet, folder: str) -> Settings:
-    """Rows above the columns whose first cell is the name of a setting, with or without a colon. The cells behind it are its
-    value, since a comma in that may have split it. What is nearly such a name is a fault, and no title."""
-    found: dict[str, str] = {}
-    for number, row in enumerate(sheet.above, 1):
-        name, *values = [row[0].rstrip(" :").lower(), *filter(None, row[1:])] if row else [""]
-        near = difflib.get_close_matches(name, NAMES, 1, 0.9)
-        if values and name not in NAMES and near:
-            raise fault_at(file, number, 0, "", f"no setting '{short(name)}'; did you mean '{near[0]}'?")
-        if values and name in found:
-            raise fault_at(file, number, 0, "", f"a second row for '{name}'")
-        if values and name in NAMES:
-            found[name] = ",".join(values)
-    return from_rows(found, folder)
+    sheet = with_one_sign(file, sheet, columns.places, faults)
+    with above.named(file):
+        terms = terms_of(file, sheet, columns, settings)
+        if terms.is_guess and settings.first is not None:
+            settings = replace(settings, shift=HOURS_OF_WORK)
+        reading = Reading(terms, settings, faults)
+        for number, cells in sheet.numbered():
+            reading.add_row(Row(terms, number, cells))
+        return reading.table(above)
 
 
 def terms_of(file: str, sheet: Sheet, columns: Columns, settings: Settings) -> Terms:
@@ -131,11 +121,9 @@ class Reading:
             else:
                 check_continuation(row, bool(self.named))
                 self.more.append((row, len(self.named) - 1))
-            beyond = next((k for k in range(len(row.terms.columns.heads), len(row.cells)) if row.cells[k]), None)
-            if beyond is not None:
-                raise row.fault(beyond, "a cell beyond the last column; names in one cell have ';' between them")
+            row.must_be_below_heads()
 
-    def table(self) -> Table:
+    def table(self, above: Above) -> Table:
         self.part()
         for row in self.rows:
             self.add_activity(row)
@@ -144,6 +132,8 @@ class Reading:
         progress.read(self.rows, self.durations, self.faults)
         lags, due = self.lags(), self.due()
         self.faults.tell()
+        for number in progress.waiting(self.durations):
+            lags.activities.mornings.setdefault(number, []).append(progress.now or 0)
         arcs, broken = without_history(lags.arcs, progress, lags.dated)
         called = {number: name for name, number in self.names.items()}
         project, names = self.project((*arcs, *progress.arcs(len(self.rows))), due, called)
@@ -152,13 +142,16 @@ class Reading:
         notes = [*self.said_of_period(), *self.terms.told, *(said_of_history(arc, called) for arc in broken)]
         found = tuple(groups(self.named, self.depth, [place in self.groups for place in range(len(self.named))]))
         return Table(project, names, self.settings, self.terms.calendar, found, lags.activities.mornings, progress,
-                     self.terms.scale, tuple(row.number for row in self.rows), tuple(notes))
+                     self.terms.scale, tuple(row.number for row in self.rows), tuple(notes), above)
 
     def part(self) -> None:
         """What is an activity, and what a group."""
-        self.depth = [0] * len(self.named)
+        for row in self.named:
+            with self.faults.kept():
+                self.depth.append(level(row))
+        if len(self.depth) < len(self.named):
+            self.faults.tell()  # alone, since which rows are groups follows from it
         with self.faults.kept():
-            self.depth = levels(self.named)
             self.groups = {place: row for place, row in enumerate(self.named) if is_summary(self.named, self.depth, place)}
         self.rows = [row for place, row in enumerate(self.named) if place not in self.groups]
         if not self.rows:
@@ -202,9 +195,13 @@ class Reading:
 
     def ids(self) -> dict[str, int]:
         found: dict[str, int] = {}
+        has_ids = any(row.cell(Column.ID) for row in self.rows)
         for number, row in enumerate(self.rows, 1):
             text = row.cell(Column.ID).casefold()
             with self.faults.kept():
+                if has_ids and not text:
+                    raise row.fault(Column.ID, f"'{short(row.cell(Column.NAME))}' has no number, and others have; a group says "
+                                    "so in a column 'summary'")
                 if text in found:
                     raise row.fault(Column.ID, f"a second activity of the number {short(text)}")
             found |= {text: number} if text else {}

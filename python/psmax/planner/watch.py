@@ -17,6 +17,7 @@ from ..clock import Clock
 from ..errors import BadInput, Failed, Fault
 from ..files import DASH, Saves, guard, must_be_like, read_bytes, read_text
 from ..project_text import ProjectText
+from .above import read_above
 from .answer import tie
 from .answer_text import AnswerText, read_answer
 from .beginning import Beginning, Start, begin_near, must_be_possible
@@ -30,7 +31,6 @@ from .project_file import ProjectFile, open_project
 from .screen import Screen
 from .server import Server
 from .settings import Settings
-from .table import settings_above
 from .verify import RECORD
 
 GLANCE = 0.1  # seconds from one look at the files to the next
@@ -158,8 +158,8 @@ class Watch:
 def named_in(path: str, settings: Settings) -> set[str]:
     """The files that a table names, even where it has a fault."""
     with suppress(Fault):
-        above = settings_above(path, read_sheet(path, read_text(path), is_head), os.path.dirname(path))
-        return {*settings.over(above).files().values()}
+        above = read_above(path, read_sheet(path, read_text(path), is_head), os.path.dirname(path))
+        return {*settings.over(above.settings).files().values()}
     return set()
 
 
