@@ -12,6 +12,7 @@ from .test_formats import DATA
 HALL = (DATA / "hall.xml").read_text()
 # By hand, in periods of four hours: the hall's tasks start then in a shortest schedule, but for watch and paint.
 STARTS = {"dig": 0, "pour": 4, "cure": 5, "lift & bolt": 9, "rails": 10, "hand over": 12}
+MONDAY_OFF = "<WeekDays><WeekDay><DayType>2</DayType><DayWorking>0</DayWorking></WeekDay></WeekDays>"
 MOVED = ("Start", "Finish", "LevelingDelay", "LevelingDelayFormat", "FinishDate")
 LAUGHS = """<?xml version="1.0"?>
 <!DOCTYPE Project [<!ENTITY a "ha"><!ENTITY b "&a;&a;&a;&a;">]>
@@ -91,12 +92,12 @@ class Mspdi(InFolder):
             ("<Project/>\n", "the project has no StartDate"), ("<Project xmlns='x'/>\n", "no project of Microsoft Project"),
             (HALL.replace("<LagFormat>7", "<LagFormat>8"), "'cure': a lag in elapsed time or in percent"),
             (HALL.replace("<DurationFormat>7", "<DurationFormat>8"), "'dig': a duration in elapsed time"),
-            (HALL.replace("<PredecessorUID>3", "<PredecessorUID>1"), "'cure': a link to 1, which is no task with work"),
+            (HALL.replace("<PredecessorUID>3", "<PredecessorUID>99"), "'cure': a link to 99, which is no task"),
             (HALL.replace("<Name>paint</Name>", "<Name>paint</Name><CalendarUID>7</CalendarUID>"), "'paint': a calendar of"),
             (HALL.replace("<Name>inspection</Name><DayWorking>0", "<DayWorking>1"), "has an exception with work"),
             (HALL.replace("<Name>inspection</Name>", "<Type>2</Type>"), "has an exception that comes again and again"),
             (HALL.replace("<ToTime>17", "<ToTime>16", 1), "the days of the base calendar have different hours"),
-            (HALL.replace("<BaseCalendarUID>1<", "<WeekDays><WeekDay/></WeekDays><BaseCalendarUID>1<"), "'crew' has days or"),
+            (HALL.replace("<BaseCalendarUID>1<", f"{MONDAY_OFF}<BaseCalendarUID>1<"), "'crew' has days or"),
             (HALL.replace("2026-03-20T17", "2926-03-20T17"), "'hand over': ConstraintDate is beyond the years 1900 to 2200"),
             (HALL.replace("</Tasks>", "</Task>"), "line 96, column 5: no XML: mismatched tag"),
         ):

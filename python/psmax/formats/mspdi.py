@@ -1,9 +1,9 @@
-"""Microsoft Project's XML (MSPDI), which ProjectLibre and GanttProject write too, as a project."""
+"""Microsoft Project's XML (MSPDI), which ProjectLibre, GanttProject and TaskJuggler write too, as a project."""
 import datetime
 import re
-from collections import Counter
+from collections.abc import Iterator
+from contextlib import contextmanager
 from dataclasses import dataclass, field
-from fractions import Fraction
 from functools import cached_property
 from math import gcd
 from xml.etree.ElementTree import Element
@@ -11,11 +11,13 @@ from xml.etree.ElementTree import Element
 from ..calendars import BEYOND, Calendar
 from ..dates import read_shift
 from ..errors import BadInput
-from ..letters import printable, short
-from ..model import Activity, Parts, Point, Resource
-from ..project import MOST_ACTIVITIES, MOST_RESOURCES
+from ..letters import at_most, printable, short
+from ..model import Parts
 from ..work_time import WorkTime
-from .mspdi_calendar import base_calendar, holidays, hours
+from .mspdi_calendar import base_calendar, by_uid, holidays, hours, is_like_project
+from .mspdi_limits import Limits, due_dates
+from .mspdi_outline import Outline, is_set
+from .mspdi_resources import Needs
 from .xml_tree import parsed, text_of
 
 SUFFIX = ".xml"
@@ -24,73 +26,124 @@ LENGTH = re.compile(r"PT(\d{1,7})H(\d{1,3})M(\d{1,3})(?:\.\d+)?S")
 ENDS = {"0": (True, True), "1": (True, False), "2": (False, True), "3": (False, False)}  # of links: FF, FS, SF and SS
 ELAPSED = {f"{kind + more}" for kind in (4, 6, 8, 10, 12, 20) for more in (0, 32)}  # lengths in time that passes
 SHARES = {"19", "51"}  # lags that are a part of a duration
-KINDS = "01234567"  # of constraints
 TENTHS = 10  # of a minute, in which lags are told
 FIRST_YEAR, LAST_YEAR = 1900, 2200  # of dates
-PERCENT = 100
 
 
 def is_like(text: str) -> bool:
     return text.lstrip().startswith("<") and re.search(r"<(\w+:)?Project\b", text[:10_000]) is not None
 
 
+@dataclass(frozen=True)
+class Link:
+    """From the start or end of one task with work to the start or end of another pass so many minutes of work at least."""
+
+    before: str
+    after: str
+    from_end: bool
+    to_end: bool
+    minutes: int
+
+
 @dataclass
 class Document:
-    """An MSPDI file as far as it is read: its tasks that become activities, in their order, by their UIDs."""
+    """An MSPDI file as far as it is read. Faults are gathered, so that all are told at once."""
 
     root: Element
+    faults: list[str] = field(default_factory=list)
+
+    @contextmanager
+    def kept(self) -> Iterator[None]:
+        try:
+            yield
+        except BadInput as fault:
+            self.faults += [told for told in map(str, fault.args) if told not in self.faults]
+
+    def tell(self) -> None:
+        if self.faults:
+            raise BadInput(*at_most(self.faults))
 
     @cached_property
+    def outline(self) -> Outline:
+        return Outline(self.root)
+
+    @property
     def tasks(self) -> dict[str, Element]:
-        found: dict[str, Element] = {}
-        for task in self.root.findall("Tasks/Task"):
-            uid = text_of(task, "UID") or ""
-            if uid in found:
-                raise BadInput(f"a second task with the UID {short(uid)}")
-            if has_work(task, uid):
-                found[uid] = task
-        if len(found) > MOST_ACTIVITIES:
-            raise BadInput(f"{len(found):,} tasks, and a project has at most {MOST_ACTIVITIES:,}")
+        return self.outline.tasks
+
+    @property
+    def names(self) -> dict[str, str]:
+        return self.outline.names
+
+    def called(self, uid: str) -> str:
+        return self.outline.called(uid)
+
+    @cached_property
+    def durations(self) -> dict[str, int]:
+        """Of the tasks, in minutes of work."""
+        found = dict.fromkeys(self.tasks, 0)
+        for uid in found:
+            with self.kept():
+                found[uid] = self.duration(uid)
         return found
 
     @cached_property
-    def names(self) -> dict[str, str]:
-        """Of the tasks; those of the same name have their UIDs too."""
-        told = {uid: printable(text_of(task, "Name") or f"task {uid}") for uid, task in self.tasks.items()}
-        count = Counter(told.values())
-        return {uid: name if count[name] == 1 else f"{name} ({printable(uid)})" for uid, name in told.items()}
+    def links(self) -> list[Link]:
+        found: list[Link] = []
+        for uid, task in self.outline.all.items():
+            for one in task.findall("PredecessorLink"):
+                with self.kept():
+                    found += self.link(uid, one)
+        return found
 
     @cached_property
     def minutes(self) -> int:
-        """How long a period is: the longest that divides all lengths, and the hours of work."""
+        """How long a period is: the longest that divides all lengths, the hours of work, and what lies before tasks that are
+        scheduled by hand."""
         parts = read_shift(self.hours[1])
         lengths = [ends - begins for begins, ends in parts]
-        lengths += [self.duration(uid) for uid in self.tasks]
-        lengths += [abs(lag) for uid in self.tasks for *_, lag in self.links(uid)]
+        lengths += [*self.durations.values(), *(abs(link.minutes) for link in self.links), *self.by_hand.values()]
         return gcd(*lengths)
 
     @cached_property
+    def by_hand(self) -> dict[str, int]:
+        """How many minutes of work lie before each task that is scheduled by hand, and stays there."""
+        found: dict[str, int] = {}
+        for uid, task in self.tasks.items():
+            with self.kept():
+                at = self.first_moment(uid, "ManualStart", "Start") if is_set(task, "Manual") else None
+                if at is not None:
+                    found[uid] = self.clock.from_on(self.not_before_project(at, uid))
+        return found
+
+    @cached_property
     def hours(self) -> tuple[str, str]:
-        return hours(base_calendar(self.root))
+        return hours(self.root)
+
+    @cached_property
+    def first(self) -> datetime.datetime:
+        found = self.moment(self.root, "StartDate", "the project")
+        if found is None:
+            raise BadInput("the project has no StartDate")
+        return found
+
+    def work(self, period: str) -> WorkTime:
+        workdays, shift = self.hours
+        return WorkTime(self.first.isoformat(" ", "minutes"), period, workdays,
+                        holidays(self.root, base_calendar(self.root)), shift)
+
+    @cached_property
+    def clock(self) -> Calendar:
+        """The calendar of minutes."""
+        return calendar_of(self.work("minutes"))
 
     @cached_property
     def work_time(self) -> WorkTime:
-        first = self.moment(self.root, "StartDate", "the project")
-        if first is None:
-            raise BadInput("the project has no StartDate")
-        workdays, shift = self.hours
-        return WorkTime(first.isoformat(" ", "minutes"), period_of(self.minutes), workdays,
-                        holidays(base_calendar(self.root)), shift)
+        return self.work(period_of(self.minutes))
 
     @cached_property
     def calendar(self) -> Calendar:
-        try:
-            return self.work_time.calendar()
-        except OverflowError:
-            raise BadInput(BEYOND) from None
-
-    def called(self, uid: str) -> str:
-        return f"task '{short(self.names[uid])}'"
+        return calendar_of(self.work_time)
 
     def moment(self, parent: Element, name: str, called: str) -> datetime.datetime | None:
         """What a date says, without its seconds; none where there is no date."""
@@ -105,12 +158,27 @@ class Document:
             raise BadInput(f"{called}: {name} is beyond the years {FIRST_YEAR} to {LAST_YEAR}: '{short(text)}'")
         return found
 
+    def first_moment(self, uid: str, *names: str) -> datetime.datetime | None:
+        """That of the first of these names that a task has."""
+        found = (self.moment(self.outline.all[uid], name, self.called(uid)) for name in names)
+        return next((one for one in found if one is not None), None)
+
+    def not_before_project(self, at: datetime.datetime, uid: str) -> datetime.datetime:
+        """The same, where it is not before the day on which the project starts."""
+        if at.date() < self.first.date():
+            raise BadInput(f"{self.called(uid)}: it starts at {at}, and the project at {self.first}")
+        return at
+
     def duration(self, uid: str) -> int:
-        """In minutes of work."""
+        """In minutes of work. Where it isn't said it lies between the start and the end."""
         task = self.tasks[uid]
-        if text_of(task, "CalendarUID") not in (None, "-1", text_of(self.root, "CalendarUID")):
+        calendar = text_of(task, "CalendarUID")
+        is_there = by_uid(self.root, calendar) is not None
+        if calendar not in (None, "-1") and not (is_there and is_like_project(self.root, calendar)):
             raise BadInput(f"{self.called(uid)}: a calendar of its own; psmax keeps the base calendar alone")
-        text = text_of(task, "Duration") or "PT0H0M0S"
+        text = text_of(task, "Duration") or text_of(task, "ManualDuration")
+        if text is None:
+            return self.between(uid)
         found = LENGTH.fullmatch(text)
         if found is None:
             raise BadInput(f"{self.called(uid)}: Duration is not such as PT8H0M0S: '{short(text)}'")
@@ -119,32 +187,53 @@ class Document:
             raise BadInput(f"{self.called(uid)}: a duration in elapsed time; psmax counts time of work alone")
         return minutes
 
-    def links(self, uid: str) -> list[tuple[str, bool, bool, int]]:
-        """The task before, whether the lag counts from its end, and to the end of this one, and its minutes."""
-        found = []
-        for link in self.tasks[uid].findall("PredecessorLink"):
-            before, kind = text_of(link, "PredecessorUID") or "", text_of(link, "Type") or "1"
-            if before not in self.tasks:
-                raise BadInput(f"{self.called(uid)}: a link to {short(before) or 'nothing'}, which is no task with work of its "
-                               "own")
-            if kind not in ENDS:
-                raise BadInput(f"{self.called(uid)}: a link of the unknown type '{short(kind)}'")
-            text, unit = text_of(link, "LinkLag") or "0", text_of(link, "LagFormat")
-            if not re.fullmatch("-?[0-9]{1,9}", text) or int(text) % TENTHS:
-                raise BadInput(f"{self.called(uid)}: LinkLag is no number of whole minutes, in tenths: '{short(text)}'")
-            if int(text) and (unit in ELAPSED or unit in SHARES):
-                raise BadInput(f"{self.called(uid)}: a lag in elapsed time or in percent; psmax counts time of work alone")
-            found.append((before, *ENDS[kind], int(text) // TENTHS))
-        return found
+    def between(self, uid: str) -> int:
+        """The minutes of work from the start of a task to its end."""
+        begins = self.first_moment(uid, "ActualStart", "ManualStart", "Start")
+        ends = self.first_moment(uid, "ActualFinish", "ManualFinish", "Finish")
+        if is_set(self.tasks[uid], "Milestone"):
+            return 0
+        if begins is None or ends is None:
+            raise BadInput(f"{self.called(uid)}: no Duration, and no Start and Finish that give one")
+        minutes = self.clock.from_on(ends) - self.clock.from_on(self.not_before_project(begins, uid))
+        if minutes < 0:
+            raise BadInput(f"{self.called(uid)}: its Finish {ends} is before its Start {begins}")
+        return minutes
+
+    def link(self, uid: str, link: Element) -> list[Link]:
+        """A link as those between tasks with work. One from the end of a summary is one from the end of each task below it,
+        and one to its start is one to the start of each. None where an end of it is not active."""
+        before, kind = text_of(link, "PredecessorUID") or "", text_of(link, "Type") or "1"
+        if before in self.outline.passed_over:
+            return []
+        if before not in self.outline.all:
+            raise BadInput(f"{self.called(uid)}: a link to {short(before) or 'nothing'}, which is no task")
+        if kind not in ENDS:
+            raise BadInput(f"{self.called(uid)}: a link of the unknown type '{short(kind)}'")
+        from_end, to_end = ENDS[kind]
+        tails, heads = (self.outline.below.get(one, [one]) for one in (before, uid))
+        if (len(tails) > 1 and not from_end) or (len(heads) > 1 and to_end):
+            side = f"from the start of {self.called(before)}" if len(tails) > 1 and not from_end else "to its end"
+            raise BadInput(f"{self.called(uid)}: a link {side}, which is that of whichever task below it is first or last; "
+                           "link its tasks")
+        if {*tails} & {*heads}:
+            raise BadInput(f"{self.called(uid)}: a link between a summary and a task of its own")
+        return [Link(tail, head, from_end, to_end, self.lag(uid, link)) for tail in tails for head in heads]
+
+    def lag(self, uid: str, link: Element) -> int:
+        text, unit = text_of(link, "LinkLag") or "0", text_of(link, "LagFormat")
+        if not re.fullmatch("-?[0-9]{1,9}", text) or int(text) % TENTHS:
+            raise BadInput(f"{self.called(uid)}: LinkLag is no number of whole minutes, in tenths: '{short(text)}'")
+        if int(text) and (unit in ELAPSED or unit in SHARES):
+            raise BadInput(f"{self.called(uid)}: a lag in elapsed time or in percent; psmax counts time of work alone")
+        return int(text) // TENTHS
 
 
-def has_work(task: Element, uid: str) -> bool:
-    """Whether a task is neither a summary nor an empty row, and active."""
-    return not (is_set(task, "Summary") or is_set(task, "IsNull") or uid == "0" or text_of(task, "Active") in ("0", "false"))
-
-
-def is_set(task: Element, name: str) -> bool:
-    return text_of(task, name) in ("1", "true")
+def calendar_of(time: WorkTime) -> Calendar:
+    try:
+        return time.calendar()
+    except OverflowError:
+        raise BadInput(BEYOND) from None
 
 
 def period_of(minutes: int) -> str:
@@ -160,110 +249,16 @@ def read(text: str, project: Parts) -> None:
     document = Document(root)
     project.name = printable(text_of(root, "Title") or "")
     needs = Needs(document)
-    needs.fill(project)
-    for uid in document.tasks:
-        project.activity(document.names[uid], document.duration(uid) // document.minutes, needs.of.get(uid),
-                         due_of(document, uid))
-    own = {uid: project[name] for uid, name in document.names.items()}
-    for uid, activity in own.items():
-        for before, from_end, to_end, lag in document.links(uid):
-            point = own[before].end if from_end else own[before].start
-            project.lag(point, activity.end if to_end else activity.start, at_least=lag // document.minutes)
-        limit(project, document, uid, activity)
-    document.calendar  # has no fault
     project.work_time = document.work_time
-
-
-@dataclass
-class Needs:
-    """The resources that do work, and what each task needs of them."""
-
-    document: Document
-    of: dict[str, dict[Resource, int]] = field(default_factory=dict)
-
-    def fill(self, project: Parts) -> None:
-        units = {uid: self.units(one, "MaxUnits") for uid, one in self.resources().items()}
-        wanted = self.assigned({*units})
-        scale = 1 if all(one.denominator == 1 for one in [*units.values(), *(count for *_, count in wanted)]) else PERCENT
-        own: dict[str, Resource] = {}
-        for uid, one in self.resources().items():
-            name = printable(text_of(one, "Name") or f"resource {uid}")
-            name = name if all(name != other.name for other in project.resources) else f"{name} ({printable(uid)})"
-            own[uid] = project.resource(name, round(units[uid] * scale))
-        for task, resource, count in wanted:
-            row = self.of.setdefault(task, {})
-            row[own[resource]] = row.get(own[resource], 0) + round(count * scale)
-
-    def resources(self) -> dict[str, Element]:
-        found: dict[str, Element] = {}
-        for one in self.document.root.findall("Resources/Resource"):
-            uid = text_of(one, "UID") or ""
-            if text_of(one, "Type") not in ("0", "2") and uid not in ("0", "") and text_of(one, "Name"):
-                self.must_be_plain(one)
-                found[uid] = one
-        if len(found) > MOST_RESOURCES:
-            raise BadInput(f"{len(found)} resources, and a project has at most {MOST_RESOURCES}")
-        return found
-
-    def must_be_plain(self, resource: Element) -> None:
-        """A calendar of its own without anything in it is the base calendar."""
-        for one in self.document.root.findall("Calendars/Calendar"):
-            is_own = text_of(one, "UID") == text_of(resource, "CalendarUID") and not is_set(one, "IsBaseCalendar")
-            if is_own and (one.find("WeekDays/WeekDay") is not None or one.find("Exceptions/Exception") is not None):
-                raise BadInput(f"resource '{short(text_of(resource, 'Name') or '')}' has days or hours of its own, and psmax "
-                               "keeps the base calendar alone")
-
-    def units(self, one: Element, name: str) -> Fraction:
-        text = text_of(one, name) or "1"
-        if not re.fullmatch(r"[0-9]{1,6}(\.[0-9]{1,6})?", text):
-            raise BadInput(f"{name} is no number of units: '{short(text)}'")
-        return Fraction(text)
-
-    def assigned(self, resources: set[str]) -> list[tuple[str, str, Fraction]]:
-        """The task, the resource and the units of each assignment of a resource that does work."""
-        found = []
-        for one in self.document.root.findall("Assignments/Assignment"):
-            task, resource = (text_of(one, name) or "" for name in ("TaskUID", "ResourceUID"))
-            if resource in resources:
-                if task not in self.document.tasks:
-                    raise BadInput(f"an assignment to {short(task) or 'nothing'}, which is no task with work of its own")
-                found.append((task, resource, self.units(one, "Units")))
-        return found
-
-
-def due_of(document: Document, uid: str) -> int | None:
-    at = document.moment(document.tasks[uid], "Deadline", document.called(uid))
-    return None if at is None else max(0, document.calendar.by(at))
-
-
-def limit(project: Parts, document: Document, uid: str, activity: Activity) -> None:
-    """What has started stays where it is, and what has not keeps its constraint and starts from the status date on."""
-    task, called = document.tasks[uid], document.called(uid)
-    begun = document.moment(task, "ActualStart", called)
-    if begun is None and (text_of(task, "PercentComplete") or "0") != "0":
-        begun = document.moment(task, "Start", called)
-    if begun is not None:
-        at = document.calendar.from_on(begun)
-        project.lag(project.start, activity.start, at_least=at, at_most=at)
-        return
-    status = document.moment(document.root, "StatusDate", "the project")
-    if status is not None and document.calendar.from_on(status) > 0:
-        project.lag(project.start, activity.start, at_least=document.calendar.from_on(status))
-    kind, at_date = text_of(task, "ConstraintType") or "0", document.moment(task, "ConstraintDate", called)
-    if at_date is not None:
-        if kind not in KINDS:
-            raise BadInput(f"{called}: a constraint of the unknown type '{short(kind)}'")
-        constrain(project, document.calendar, activity, kind, at_date)
-
-
-def constrain(project: Parts, calendar: Calendar, activity: Activity, kind: str, at: datetime.datetime) -> None:
-    """As soon as possible (0) and as late as possible (1) say nothing of when."""
-    begin, end = calendar.from_on(at), calendar.by(at)
-    latest = begin if calendar.begins(begin) <= at else begin - 1
-    soonest = end if end > 0 and calendar.ended(end) >= at else max(end, 0) + 1
-    limits: dict[str, tuple[Point, int | None, int | None]] = {
-        "2": (activity.start, begin, begin), "3": (activity.end, end, end), "4": (activity.start, begin, None),
-        "5": (activity.start, None, latest), "6": (activity.end, soonest, None), "7": (activity.end, None, end)}
-    if kind in limits:
-        point, least, most = limits[kind]
-        project.lag(project.start, point, at_least=least, at_most=most)
+    with document.kept():
+        needs.fill(project)
+    due = due_dates(document)
+    for uid in document.tasks:
+        project.activity(document.names[uid], document.durations[uid] // document.minutes, needs.of.get(uid), due.get(uid))
+    own = {uid: project[name] for uid, name in document.names.items()}
+    for link in document.links:
+        point = own[link.before].end if link.from_end else own[link.before].start
+        project.lag(point, own[link.after].end if link.to_end else own[link.after].start,
+                    at_least=link.minutes // document.minutes)
+    Limits(document, project, own).add()
+    document.tell()

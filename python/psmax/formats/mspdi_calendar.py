@@ -20,33 +20,66 @@ Span = tuple[str, str]  # hours of work, as HH:MM
 
 def base_calendar(project: Element) -> Element | None:
     """The calendar that the project names, or else the first base calendar."""
-    calendars = project.findall("Calendars/Calendar")
-    named = text_of(project, "CalendarUID")
-    own = [one for one in calendars if text_of(one, "UID") == named]
-    bases = [one for one in calendars if text_of(one, "IsBaseCalendar") in ("1", "true")]
-    return next(iter([*own, *bases]), None)
+    own = by_uid(project, text_of(project, "CalendarUID"))
+    bases = [one for one in project.findall("Calendars/Calendar") if is_base(one)]
+    return bases[0] if own is None and bases else own
 
 
-def hours(calendar: Element | None) -> tuple[str, str]:
-    """The workdays and the hours of a day with work, such as `mon-fri` and `08:00-12:00,13:00-17:00`."""
-    if calendar is None:
+def by_uid(project: Element, uid: str | None) -> Element | None:
+    return next((one for one in project.findall("Calendars/Calendar") if uid is not None and text_of(one, "UID") == uid), None)
+
+
+def is_base(calendar: Element) -> bool:
+    return text_of(calendar, "IsBaseCalendar") in ("1", "true")
+
+
+def chain(project: Element, calendar: Element | None) -> list[Element]:
+    """A calendar, the one that it is based on, and so on."""
+    found: list[Element] = []
+    while calendar is not None and calendar not in found:
+        found.append(calendar)
+        calendar = None if is_base(calendar) else by_uid(project, text_of(calendar, "BaseCalendarUID"))
+    return found
+
+
+def is_like_project(project: Element, uid: str | None) -> bool:
+    """Whether the calendar of this UID has the days, hours and days off of the project's. None is the project's."""
+    own, base = by_uid(project, uid), base_calendar(project)
+    try:
+        return own is None or (spans(project, own), holidays(project, own)) == (spans(project, base), holidays(project, base))
+    except BadInput:
+        return False
+
+
+def hours(project: Element) -> tuple[str, str]:
+    """The workdays of the project's calendar and the hours of a day with work, such as `mon-fri` and
+    `08:00-12:00,13:00-17:00`."""
+    found = spans(project, base_calendar(project))
+    if not found:
         return "mon-fri", USUAL
-    spans: dict[int, list[str]] = {}
-    for day in calendar.findall("WeekDays/WeekDay"):
-        kind = text_of(day, "DayType") or ""
-        if re.fullmatch("[1-7]", kind) and text_of(day, "DayWorking") in ("1", "true"):
-            spans[(int(kind) - SUNDAY - 1) % 7] = [span_of(one) for one in day.findall("WorkingTimes/WorkingTime")] \
-                or USUAL.split(",")
-    if not spans:
-        return "mon-fri", USUAL
-    if len({tuple(own) for own in spans.values()}) > 1:
+    if len({tuple(own) for own in found.values()}) > 1:
         raise BadInput("the days of the base calendar have different hours, and all periods here are alike")
-    shift = ",".join(next(iter(spans.values())))
+    shift = ",".join(next(iter(found.values())))
     try:
         read_shift(shift)
     except ValueError as fault:
         raise BadInput(f"the hours of the base calendar: {fault}") from None
-    return in_ranges(spans), shift
+    return in_ranges(found), shift
+
+
+def spans(project: Element, calendar: Element | None) -> dict[int, list[str]]:
+    """The hours of each day of the week that has work. A calendar says what is not as in the one that it is based on."""
+    found: dict[int, list[str]] = {}
+    for one in reversed(chain(project, calendar)):
+        if one.find("WorkWeeks/WorkWeek/WeekDays/WeekDay") is not None:
+            raise BadInput("the base calendar has weeks with other days or hours, and all weeks here are alike")
+        for day in one.findall("WeekDays/WeekDay"):
+            kind = text_of(day, "DayType") or ""
+            number = (int(kind) - SUNDAY - 1) % 7 if re.fullmatch("[1-7]", kind) else -1
+            found.pop(number, None)
+            if number >= 0 and text_of(day, "DayWorking") in ("1", "true"):
+                found[number] = [span_of(part) for part in day.findall("WorkingTimes/WorkingTime")] or USUAL.split(",")
+    return dict(sorted(found.items()))
 
 
 def span_of(one: Element) -> str:
@@ -68,12 +101,12 @@ def in_ranges(days: Collection[int]) -> str:
     return ",".join(NAMES[one[0]] if len(one) == 1 else f"{NAMES[one[0]]}-{NAMES[one[-1]]}" for one in found)
 
 
-def holidays(calendar: Element | None) -> tuple[datetime.date, ...]:
+def holidays(project: Element, calendar: Element | None) -> tuple[datetime.date, ...]:
     """The exceptions without work. One with work has hours that other days don't have."""
     found: set[datetime.date] = set()
-    exceptions = [] if calendar is None else [
-        *calendar.findall("Exceptions/Exception"),
-        *(day for day in calendar.findall("WeekDays/WeekDay") if text_of(day, "DayType") == "0")]
+    exceptions = [one for own in chain(project, calendar) for one in (
+        *own.findall("Exceptions/Exception"),
+        *(day for day in own.findall("WeekDays/WeekDay") if text_of(day, "DayType") == "0"))]
     for one in exceptions:
         if text_of(one, "DayWorking") in ("1", "true"):
             raise BadInput("the base calendar has an exception with work, and all days with work are alike here")

@@ -108,35 +108,23 @@ def replanned(text: str, schedule: Schedule) -> str:
         begins, ends = (datetime.datetime.fromisoformat(told) for told in
                         document.calendar.times(starts[number], starts[number] + numbers.durations[number]))
         times[uid] = begins, ends
-        if text_of(task, "ActualStart") is None:
+        if text_of(task, "ActualStart") is None and uid not in document.by_hand:
             soonest = max([0, *(starts[arc.tail] + arc.lag for arc in numbers.arcs if arc.head == number)])
             delay = document.calendar.begins(starts[number]) - document.calendar.begins(min(soonest, starts[number]))
             tenths = int(delay.total_seconds()) // 60 * TENTHS
             for name, told in (("Start", stamp(begins)), ("Finish", stamp(ends)), ("LevelingDelay", f"{tenths}"),
                                ("LevelingDelayFormat", ELAPSED_DAYS)):
                 put(task, name, told, ORDER)
-    around(root, times)
+    around(root, document, times)
     return written(root)
 
 
-def around(root: Element, times: dict[str, tuple[datetime.datetime, datetime.datetime]]) -> None:
-    """The times of summaries, which stand before what is below them, and of the project."""
-    tasks = root.findall("Tasks/Task")
-    for place, task in enumerate(tasks):
-        if text_of(task, "Summary") in ("1", "true") or text_of(task, "UID") == "0":
-            level, below = level_of(task), []
-            for other in tasks[place + 1 :]:
-                if level_of(other) <= level:
-                    break
-                below.append(text_of(other, "UID") or "")
-            inner = [times[uid] for uid in below if uid in times]
-            if inner:
-                put(task, "Start", stamp(min(inner)[0]), ORDER)
-                put(task, "Finish", stamp(max(ends for _, ends in inner)), ORDER)
+def around(root: Element, document: Document, times: dict[str, tuple[datetime.datetime, datetime.datetime]]) -> None:
+    """The times of summaries, from those of what is below them, and of the project."""
+    for uid, below in document.outline.below.items():
+        inner = [times[one] for one in below]
+        if inner:
+            put(document.outline.all[uid], "Start", stamp(min(inner)[0]), ORDER)
+            put(document.outline.all[uid], "Finish", stamp(max(ends for _, ends in inner)), ORDER)
     if times and root.find("FinishDate") is not None:
         put(root, "FinishDate", stamp(max(ends for _, ends in times.values())), ("FinishDate",))
-
-
-def level_of(task: Element) -> int:
-    text = text_of(task, "OutlineLevel") or "1"
-    return int(text) if text.isdecimal() and len(text) < 6 else 1

@@ -1,0 +1,89 @@
+"""The tasks of an MSPDI file in their outline: which have work of their own, and which are summaries of those below."""
+from collections import Counter
+from dataclasses import dataclass, field
+from functools import cached_property
+from xml.etree.ElementTree import Element
+
+from ..errors import BadInput
+from ..letters import printable, short
+from ..project import MOST_ACTIVITIES
+from .xml_tree import text_of
+
+WHOLE = "0"  # the UID of the task that stands for the whole project
+
+
+@dataclass
+class Outline:
+    """By their UIDs, in the order of the file. A task that is not active or empty is in none of them."""
+
+    root: Element
+    passed_over: set[str] = field(default_factory=set)  # tasks that are not active, or empty rows
+
+    @cached_property
+    def tasks(self) -> dict[str, Element]:
+        """What becomes an activity."""
+        return {uid: task for uid, task in self.all.items() if not is_summary(task, uid)}
+
+    @cached_property
+    def all(self) -> dict[str, Element]:
+        found: dict[str, Element] = {}
+        for task in self.root.findall("Tasks/Task"):
+            uid = text_of(task, "UID") or ""
+            if uid in found or uid in self.passed_over:
+                raise BadInput(f"a second task with the UID {short(uid)}")
+            if is_set(task, "IsNull") or text_of(task, "Active") in ("0", "false"):
+                self.passed_over.add(uid)
+            else:
+                found[uid] = task
+        count = sum(not is_summary(task, uid) for uid, task in found.items())
+        if count > MOST_ACTIVITIES:
+            raise BadInput(f"{count:,} tasks, and a project has at most {MOST_ACTIVITIES:,}")
+        return found
+
+    @cached_property
+    def below(self) -> dict[str, list[str]]:
+        """The tasks with work below each summary, up to the next row that stands as high."""
+        found: dict[str, list[str]] = {}
+        open_ones: list[str] = []
+        for uid, task in self.all.items():
+            while open_ones and level(self.all[open_ones[-1]]) >= level(task):
+                open_ones.pop()
+            if is_summary(task, uid):
+                found[uid] = []
+                open_ones.append(uid)
+            else:
+                for one in open_ones:
+                    found[one].append(uid)
+        return found
+
+    @cached_property
+    def names(self) -> dict[str, str]:
+        """Those of the same name have their UIDs too."""
+        told = {uid: printable(text_of(task, "Name") or f"task {uid}") for uid, task in self.tasks.items()}
+        count = Counter(told.values())
+        return {uid: name if count[name] == 1 else f"{name} ({printable(uid)})" for uid, name in told.items()}
+
+    def called(self, uid: str) -> str:
+        """A task as faults call it."""
+        if uid in self.names:
+            return f"task '{short(self.names[uid])}'"
+        name = text_of(self.all[uid], "Name") if uid in self.all else None
+        return f"summary '{short(name)}'" if name else f"task {short(uid) or 'without a UID'}"
+
+
+def is_summary(task: Element, uid: str) -> bool:
+    return is_set(task, "Summary") or uid == WHOLE
+
+
+def level(task: Element) -> int:
+    """How deep a task stands: by its outline level, or else by the parts of its number."""
+    text, number = text_of(task, "OutlineLevel"), text_of(task, "OutlineNumber") or text_of(task, "WBS")
+    if text is not None and text.isdecimal() and len(text) < 6:
+        return int(text)
+    if text_of(task, "UID") == WHOLE:
+        return 0
+    return number.count(".") + 1 if number else 1
+
+
+def is_set(task: Element, name: str) -> bool:
+    return text_of(task, name) in ("1", "true")

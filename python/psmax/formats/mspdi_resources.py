@@ -1,0 +1,124 @@
+"""The resources of an MSPDI file that do work, when they are there, and what each task needs of them."""
+import datetime
+import re
+from collections.abc import Iterable
+from dataclasses import dataclass, field
+from fractions import Fraction
+from typing import TYPE_CHECKING
+from xml.etree.ElementTree import Element
+
+from ..calendars import Calendar
+from ..errors import BadInput
+from ..letters import printable, short
+from ..model import Parts, Resource
+from ..project import MOST_RESOURCES
+from .mspdi_calendar import is_like_project
+from .xml_tree import text_of
+
+if TYPE_CHECKING:
+    from .mspdi import Document
+
+PERCENT = 100
+LAST_YEAR = 2049  # what is available until its end is available for ever
+MINUTE = datetime.timedelta(minutes=1)
+Stretch = tuple[datetime.datetime | None, datetime.datetime | None, Fraction]  # from when until when there are so many units
+Away = tuple[int, int | None, Fraction]  # from which time until which how many units lack
+
+
+@dataclass
+class Needs:
+    document: "Document"
+    of: dict[str, dict[Resource, int]] = field(default_factory=dict)
+
+    def fill(self, project: Parts) -> None:
+        """Adds the resources with their absences. Units are in percent where one is no whole number."""
+        found = self.resources()
+        stretches = {uid: self.availability(one) for uid, one in found.items()}
+        units = {uid: max(count for *_, count in stretches[uid]) for uid in found}
+        wanted = self.assigned({*units})
+        counts = [count for one in stretches.values() for *_, count in one] + [count for *_, count in wanted]
+        scale = 1 if all(one.denominator == 1 for one in counts) else PERCENT
+        own: dict[str, Resource] = {}
+        for uid, one in found.items():
+            name = printable(text_of(one, "Name") or f"resource {uid}")
+            name = name if all(name != other.name for other in project.resources) else f"{name} ({printable(uid)})"
+            own[uid] = project.resource(name, round(units[uid] * scale))
+            for begins, ends, away in absences(stretches[uid], units[uid], self.document.calendar):
+                project.absence(own[uid], begins, ends, round(away * scale))
+        for task, resource, count in wanted:
+            row = self.of.setdefault(task, {})
+            row[own[resource]] = row.get(own[resource], 0) + round(count * scale)
+
+    def resources(self) -> dict[str, Element]:
+        found: dict[str, Element] = {}
+        for one in self.document.root.findall("Resources/Resource"):
+            uid = text_of(one, "UID") or ""
+            if text_of(one, "Type") not in ("0", "2") and uid not in ("0", "") and text_of(one, "Name"):
+                found[uid] = one
+                with self.document.kept():
+                    self.must_be_plain(one)
+        if len(found) > MOST_RESOURCES:
+            raise BadInput(f"{len(found)} resources, and a project has at most {MOST_RESOURCES}")
+        return found
+
+    def must_be_plain(self, resource: Element) -> None:
+        """Its calendar has the days, the hours and the days off of the project's, also by the one that it is based on."""
+        if not is_like_project(self.document.root, text_of(resource, "CalendarUID")):
+            raise BadInput(f"resource '{short(text_of(resource, 'Name') or '')}' has days or hours of its own, and psmax keeps "
+                           "the project's calendar alone; days off may stand in its availability")
+
+    def availability(self, resource: Element) -> list[Stretch]:
+        """How many units there are when; between the periods there are none."""
+        called = f"resource '{short(text_of(resource, 'Name') or '')}'"
+        found: list[Stretch] = []
+        for one in resource.findall("AvailabilityPeriods/AvailabilityPeriod"):
+            begins, ends = (self.document.moment(one, name, called) for name in ("AvailableFrom", "AvailableTo"))
+            ends = None if ends is None or ends.year >= LAST_YEAR else ends + MINUTE * (ends.minute == 59)
+            if begins is not None and ends is not None and ends <= begins:
+                raise BadInput(f"{called}: AvailableTo is before AvailableFrom")
+            found.append((begins, ends, units_of(one, "AvailableUnits", called)))
+        return found or [(None, None, units_of(resource, "MaxUnits", called))]
+
+    def assigned(self, resources: set[str]) -> list[tuple[str, str, Fraction]]:
+        """The task, the resource and the units of each assignment of a resource that does work to a task that is active."""
+        document, found = self.document, []
+        for one in document.root.findall("Assignments/Assignment"):
+            task, resource = (text_of(one, name) or "" for name in ("TaskUID", "ResourceUID"))
+            if resource in resources and task not in document.outline.passed_over:
+                with document.kept():
+                    if task not in document.outline.tasks:
+                        raise BadInput(f"{document.outline.called(task)}: an assignment, and no work of its own")
+                    found.append((task, resource, units_of(one, "Units", document.outline.called(task))))
+        return found
+
+
+def units_of(one: Element, name: str, called: str) -> Fraction:
+    text = text_of(one, name) or "1"
+    if not re.fullmatch(r"[0-9]{1,6}(\.[0-9]{1,6})?", text):
+        raise BadInput(f"{called}: {name} is no number of units: '{short(text)}'")
+    return Fraction(text)
+
+
+def absences(stretches: Iterable[Stretch], most: Fraction, calendar: Calendar) -> list[Away]:
+    """When how many units lack of the most that there ever are. What lacks for a part of a period lacks for all of it."""
+    moments = sorted({moment for begins, ends, _ in stretches for moment in (begins, ends) if moment is not None})
+    lacks: list[Away] = []
+    for begins, ends in zip([None, *moments], [*moments, None]):
+        there = sum((units for first, last, units in stretches if (first is None or begins is not None and first <= begins)
+                     and (last is None or ends is not None and ends <= last)), Fraction(0))
+        time = 0 if begins is None else max(0, calendar.by(begins))
+        lacks.append((time, None if ends is None else calendar.from_on(ends), most - there))
+    return without_overlap([one for one in lacks if one[2] > 0 and (one[1] is None or one[0] < one[1])])
+
+
+def without_overlap(lacks: list[Away]) -> list[Away]:
+    """The most that lacks at each time."""
+    times = sorted({time for begins, ends, _ in lacks for time in (begins, ends) if time is not None})
+    found: list[Away] = []
+    for begins, ends in zip(times, [*times[1:], None]):
+        away = max((units for first, last, units in lacks if first <= begins and (last is None or begins < last)), default=0)
+        if away and found and found[-1][1] == begins and found[-1][2] == away:
+            found[-1] = (found[-1][0], ends, found[-1][2])
+        elif away:
+            found.append((begins, ends, Fraction(away)))
+    return found
