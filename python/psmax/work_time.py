@@ -36,7 +36,7 @@ class WorkTime:
 
     def calendar(self, order: str | None = None) -> Calendar:
         """The dates of the periods. `order` is that of numbers between slashes in dates."""
-        first = moment(self.first, "from", order).at
+        first, where = moment(self.first, "from", order).at, zone(self.zone)
         minutes = minutes_of(self.period)
         is_by_day = self.workdays is not None or bool(self.holidays)
         if is_by_day and minutes > MINUTES["days"]:
@@ -45,7 +45,7 @@ class WorkTime:
             raise BadInput("workdays and holidays are for periods of a day, and a period here is one of the "
                            f"{self.period}; with --shift, the hours of work, there are days off too")
         if minutes < MINUTES["days"] and self.shift is None:
-            return Moments(first, minutes, zone(self.zone))
+            return Moments(first, minutes, where)
         days = Days(first.date(), max(1, minutes // MINUTES["days"]), workdays(self.workdays), frozenset(self.free_days))
         return days if minutes >= MINUTES["days"] else Shifts(first, minutes, days, shift(self.shift, minutes))
 

@@ -135,7 +135,8 @@ def add_settings(one: argparse.ArgumentParser) -> None:
     project.add_argument("--workdays", metavar="DAYS", help="the days with work, such as mon-fri or Mo-Fr (default: every day)")
     project.add_argument("--holidays", metavar="FILE", help="a file of days without work, one date a line")
     project.add_argument("--shift", metavar="HOURS", help="the hours of work of a day, such as 07:00-12:00,13:00-16:00")
-    project.add_argument("--zone", metavar="ZONE", help="the time zone of periods around the clock, such as Europe/Berlin")
+    project.add_argument("--zone", metavar="ZONE", help="the time zone of periods around the clock and of calendars, such as "
+                         "Europe/Berlin")
     project.add_argument("--dates", choices=ORDERS, help="what stands first in a date such as 3/2/2026: the day or the month")
     project.add_argument("--absences", metavar="FILE", help="a table of what is away when: resource, from, to, units")
     project.add_argument("--status", metavar="DATE", help="the day at which the table says how far the project has come")

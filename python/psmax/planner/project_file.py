@@ -132,10 +132,10 @@ def open_other(path: str, data: bytes, words: Settings, page: str | None) -> Pro
     made = Project()
     read(data, made, path)
     names = Names({one.number: one.name for one in made.activities}, [one.name for one in made.resources])
-    told, days = Settings(), frozenset[datetime.date]()
+    told, days = Settings(title=made.name or None), frozenset[datetime.date]()
     if made.work_time is not None:
         time = made.work_time
-        told = Settings(time.first, time.period, time.workdays, shift=time.shift, zone=time.zone)
+        told = Settings(time.first, time.period, time.workdays, shift=time.shift, zone=time.zone, title=told.title)
         names.unit, days = time.period, frozenset(time.free_days)
     if page is not None:
         words = words.over(from_rows(read_page(read_bytes(page)).settings, os.path.dirname(page)))
