@@ -1,5 +1,9 @@
 """Tables of which something was once read in silence as something else: each is now read as it is meant, or has a fault that
 names its row. German and English ones, as spreadsheets write them."""
+import json
+
+from psmax.dates import read_moment
+
 from .helpers import TWO_JOBS, InFolder, plan
 
 # By hand: from Monday 13 April 2026 on, Monday to Friday, two days and then three of a crane.
@@ -34,10 +38,11 @@ class Tables(InFolder):
     """Helpers that solve a table or tell its faults."""
 
     def solved(self, table: str, *words: object) -> tuple[str, str]:
-        """The first line of the answer, and what was told."""
-        ran = plan("solve", self.file("p.csv", table), "--jobs", "1", *words)
+        """The status with the makespan, and what was told."""
+        ran = plan("solve", self.file("p.csv", table), "--jobs", "1", "--json", *words)
         self.assertEqual(ran.returncode, 0, ran.stderr)
-        return ran.stdout.partition("\n")[0], ran.stderr
+        found = json.loads(ran.stdout)
+        return f"{found['status']} {found['makespan']}", ran.stderr
 
     def faults(self, table: str, *texts: str, faults: int = 1) -> None:
         self.refused(plan("solve", self.file("p.csv", table)), 2, *texts, faults=faults)
@@ -139,7 +144,8 @@ class Above(Tables):
         """The day on which the only activity ends."""
         ran = plan("write", self.file("p.csv", table), self.file("a.csv", "name,start\ndig,0\n"))
         self.assertEqual(ran.returncode, 0, ran.stderr)
-        return ran.stdout.splitlines()[1].rpartition(",")[2]
+        at = read_moment(ran.stdout.splitlines()[1].rpartition(",")[2])
+        return f"{at.at:%Y-%m-%d}" + ("" if at.is_day else f" {at.at:%H:%M}")
 
     def test_settings(self) -> None:
         """However a setting is spelled and parted from its value, there is no work on Sundays and holidays."""
@@ -305,7 +311,9 @@ class Waiting(Tables):
             with self.subTest(table):
                 path, best = self.file("p.csv", table), self.folder / "best.csv"
                 best.unlink(missing_ok=True)
-                self.assertEqual(plan("solve", path, "--out", best).stdout, "optimal 5\n")
-                self.assertIn("1,get trusses,3,0,3,2026-04-16,2026-04-16\n", plan("write", path, best).stdout)
+                self.assertEqual(plan("solve", path, "--out", best).returncode, 0)
+                row = plan("write", path, best).stdout.splitlines()[1].split(",")
+                self.assertEqual([*row[1:5], *(f"{read_moment(cell).at:%d %b}" for cell in row[5:])],
+                                 ["get trusses", "3", "0", "3", "16 Apr", "16 Apr"])
                 self.assertEqual(plan("write", path, best, "--out", self.folder / "p.ics").returncode, 0)
                 self.assertIn("DTSTART;VALUE=DATE:20260416\r\n", (self.folder / "p.ics").read_bytes().decode())

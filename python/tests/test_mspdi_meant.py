@@ -46,10 +46,11 @@ def there(units: int, begins: str = "NA", ends: str = "NA") -> str:
             f"<AvailableUnits>{units}</AvailableUnits></AvailabilityPeriod>")
 
 
-def project(tasks: str, resources: str = "", calendars: str = "", assignments: str = "", more: str = "") -> psmax.Project:
+def project(tasks: str, resources: str = "", calendars: str = "", assignments: str = "",
+            start: str = "2026-03-02T08:00:00") -> psmax.Project:
     return psmax.Project.read(
-        f"<Project xmlns=\"http://schemas.microsoft.com/project\"><StartDate>2026-03-02T08:00:00</StartDate>"
-        f"<CalendarUID>1</CalendarUID>{more}<Calendars>{calendars or calendar(1, week())}</Calendars><Tasks>{tasks}</Tasks>"
+        f"<Project xmlns=\"http://schemas.microsoft.com/project\"><StartDate>{start}</StartDate>"
+        f"<CalendarUID>1</CalendarUID><Calendars>{calendars or calendar(1, week())}</Calendars><Tasks>{tasks}</Tasks>"
         f"<Resources>{resources}</Resources><Assignments>{assignments}</Assignments></Project>\n")
 
 
@@ -136,6 +137,14 @@ class Meant(unittest.TestCase):
         self.refused(("task 'dig': no Duration, and no Start and Finish that give one", "task 'pour': its Finish"),
                      task(1, "dig", 1, None) + task(2, "pour", 1, None, "<Start>2026-03-05T08:00:00</Start>"
                                                     "<Finish>2026-03-04T08:00:00</Finish>"))
+
+    def test_the_start_of_the_project(self) -> None:
+        """A period divides what lies before it in the hours of work, so it begins there."""
+        for start, period, first in (("2026-03-02T09:00:00", "hours", "2026-03-02 09:00"),
+                                     ("2026-03-02T13:30:00", "30 minutes", "2026-03-02 13:30"),
+                                     ("2026-03-02T12:30:00", "4 hours", "2026-03-02 13:00")):
+            time = project(task(1, "dig", 1), start=start).work_time
+            self.assertEqual((time and time.period, time and time.calendar().times(0, 1)[0]), (period, first))
 
     def test_calendars(self) -> None:
         """One that is based on another has its days and hours, and says what is not so there."""

@@ -99,9 +99,10 @@ class Document:
     @cached_property
     def minutes(self) -> int:
         """How long a period is: the longest that divides all lengths, the hours of work, and what lies before tasks that are
-        scheduled by hand."""
+        scheduled by hand and before the start of the project."""
         parts = read_shift(self.hours[1])
-        lengths = [ends - begins for begins, ends in parts]
+        now = 60 * self.first.hour + self.first.minute
+        lengths = [length for begins, ends in parts for length in (ends - begins, now - begins if begins < now < ends else 0)]
         lengths += [*self.durations.values(), *(abs(link.minutes) for link in self.links), *self.by_hand.values()]
         return gcd(*lengths)
 

@@ -61,6 +61,10 @@ def figures(file: ProjectFile) -> Iterator[str]:
     if soonest is not None:
         ends = max([0, *project.ends(soonest)])
         yield "by lags alone " + (words.many(ends) if file.calendar is None else f"until {words.brief(ends, True)}")
+    if project.absences:
+        away = sum((one.ends - one.begins) * one.units for one in project.absences if one.ends is not None)
+        ever = sum(one.ends is None for one in project.absences)
+        yield f"absences of {words.many(away)}" + (f", {ever} for ever" if ever else "")
 
 
 def is_greatest(file: ProjectFile, arc: Arc) -> bool:

@@ -17,6 +17,7 @@ from .serials import day_of_serial
 DATED = (Column.STARTED, Column.FINISHED, Column.NOT_BEFORE, Column.END_BY, Column.DUE)
 MONTHS = "jan feb mar mär mrz apr may mai jun jul aug sep oct okt nov dec dez"
 MONTH = re.compile(rf"\b(?:{'|'.join(MONTHS.split())})\b", re.I)
+CODE = re.compile(r"\w+(?:[ ./_-]\w+)*\.?")  # of a work breakdown
 YES, NO = ("yes", "y", "x", "true", "ja", "1"), ("", "no", "n", "false", "nein", "0")
 
 
@@ -217,7 +218,7 @@ def level(row: Row) -> int:
     if is_dated(code) or MONTH.search(code):
         raise row.fault(Column.WBS, f"'{short(code)}' is no code such as 1.2, but the date that a spreadsheet made of it; "
                         "format the column as text")
-    if "," in code:
+    if code and not CODE.fullmatch(code):
         raise row.fault(Column.WBS, f"'{short(code)}' is no code such as 1.2, which has points")
     return int(told) if told else len([part for part in code.split(".") if part])
 
