@@ -201,6 +201,24 @@ class Above(Tables):
                     faults=5)
 
 
+class Starts(Tables):
+    """The moment at which the project starts."""
+
+    def test_within_the_hours_of_work(self) -> None:
+        """By hand: half days would be periods of four hours, and from 09:00 on it is hours. A day that nobody cuts is whole."""
+        heads = "shift,08:00-12:00,13:00-17:00\n\nactivity,days\n"
+        for above, days, wanted, said in (
+            ("from,2026-04-13 09:00\n" + heads, "1.5", ["2026-04-13 09:00", "2026-04-14 14:00"], ""),
+            ("ab,13.04.2026 13:00\n" + heads, "1.5", ["13.04.2026 13:00", "14.04.2026 17:00"], ""),
+            ("from,2026-04-13 09:00\nactivity,days\n", "2", ["2026-04-13", "2026-04-14"],
+             "from 2026-04-13 09:00: no period begins then, so the project starts at 2026-04-13"),
+        ):
+            with self.subTest(above):
+                path, answer = self.file("p.csv", f"{above}dig,{days}\n"), self.file("a.csv", "name,start\ndig,0\n")
+                self.assertEqual(plan("write", path, answer).stdout.splitlines()[1].split(",")[-2:], wanted)
+                self.assertIn(said, plan("solve", path).stderr)
+
+
 class Decimals(Tables):
     """One table has one decimal sign."""
 

@@ -9,7 +9,7 @@ from ..dates import is_dated
 from ..errors import BadInput
 from ..letters import printable, short
 from ..project import MOST_ACTIVITIES, MOST_ARCS, Arc, Goal, Project
-from ..work_time import minutes_of, shift, workdays
+from ..work_time import minutes_of, moment, shift, workdays
 from .above import Above, read_above
 from .absences import read_absences
 from .columns import LAGS, Column, Columns, count_heads, is_head, read_heads, resource
@@ -71,17 +71,25 @@ def terms_of(file: str, sheet: Sheet, columns: Columns, settings: Settings) -> T
     if own is Unit.PERIODS and len(units) == 1:
         [own] = units  # a column `duration` with one unit in all of its cells
     found = lengths([text for row in rows for text in lengths_in(row)], own)
-    scale = scale_of(found, own, head, None if settings.shift is None else shift(settings.shift, 1), week)
+    scale = scale_of(found, own, head, None if settings.shift is None else parts_of(settings), week)
     is_guess = settings.shift is None and (scale is None or needs_hours(units_of(found) | {own}, named))
     if scale is None or is_guess:
         settings = replace(settings, shift=HOURS_OF_WORK)
-        scale = scale_of(found, own, head, shift(settings.shift, 1), week)
+        scale = scale_of(found, own, head, parts_of(settings), week)
     assert scale is not None
     if named in (Unit.DAYS.value, Unit.WEEKS.value):
         scale = replace(scale, period=Unit(named), minutes=0, is_named=True)
     elif named is not None:
         scale = replace(scale, period=Unit.MINUTES, minutes=minutes_of(named), is_named=True)
     return replace(blank, scale=scale, calendar=calendar(replace(settings, period=None), scale.name()), is_guess=is_guess)
+
+
+def parts_of(settings: Settings) -> list[tuple[int, int]]:
+    """The hours of work of a day, in two parts where the project starts within them, so that a period begins there."""
+    first = None if settings.first is None else moment(settings.first, "from", settings.dates).at
+    now = 0 if first is None else 60 * first.hour + first.minute
+    return [part for begins, ends in shift(settings.shift, 1)
+            for part in ([(begins, now), (now, ends)] if begins < now < ends else [(begins, ends)])]
 
 
 def needs_hours(units: set[Unit], named: str | None) -> bool:
@@ -139,7 +147,8 @@ class Reading:
         project, names = self.project((*arcs, *progress.arcs(len(self.rows))), due, called)
         names.ids = {number: row.cell(Column.ID) for number, row in enumerate(self.rows, 1) if row.cell(Column.ID)}
         project = replace(project, dated=tuple(one for one in lags.dated if one.arc in arcs))
-        notes = [*self.said_of_period(), *self.terms.told, *(said_of_history(arc, called) for arc in broken)]
+        notes = [*self.said_of_period(), *self.said_of_start(), *self.terms.told]
+        notes += [said_of_history(arc, called) for arc in broken]
         found = tuple(groups(self.named, self.depth, [place in self.groups for place in range(len(self.named))]))
         return Table(project, names, self.settings, self.terms.calendar, found, lags.activities.mornings, progress,
                      self.terms.scale, tuple(row.number for row in self.rows), tuple(notes), above)
@@ -263,6 +272,14 @@ class Reading:
         day += f", {HOURS_OF_WORK}, until --shift says other hours" if self.terms.is_guess else ""
         why = "as --period says" if scale.is_named else f"which divide all lengths of {self.terms.file}"
         return [f"a period is one of {scale.name()}, {why}{day}"]
+
+    def said_of_start(self) -> list[str]:
+        """When the project starts, where no period begins at the moment that is named."""
+        first, calendar = self.settings.first, self.terms.calendar
+        at = None if first is None else moment(first, "from", self.settings.dates)
+        if at is None or at.is_day or calendar is None or calendar.begins(0) == at.at:
+            return []
+        return [f"from {first}: no period begins then, so the project starts at {calendar.begins(0):%Y-%m-%d %H:%M}"]
 
 
 def without_history(arcs: Sequence[Arc], progress: Progress, dated: Sequence[DatedLag]) -> tuple[list[Arc], list[Arc]]:
