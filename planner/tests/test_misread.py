@@ -77,6 +77,17 @@ class Absences(Tables):
         self.away("resource,from,to\ncrane,2026-04-13 12:00,2026-04-13 13:00\ncrane,2026-04-11,2026-04-12\n")
         self.assertEqual(self.solved(HOURS)[0], "optimal 5")
 
+    def test_heads(self) -> None:
+        """In German too; and nothing above or beside the columns is passed over."""
+        self.away("title;wer fehlt\n# von Hand\nRessource;von;bis;Anzahl\nKran;14.04.2026;14.04.2026;1\n")
+        self.assertEqual(self.solved(GERMAN.format("", "", ""))[0], "optimal 7")
+        self.away("Kran;13.04.2026;14.04.2026\nresource;from;to\n")
+        self.faults(GERMAN.format("", "", ""), "away.csv: row 1, column A: 'Kran' stands above the columns")
+        self.away("resource;from;to;bis\nKran;14.04.2026;14.04.2026;\n")
+        self.faults(GERMAN.format("", "", ""), "away.csv: row 1, column D (bis): a second column 'to'")
+        self.away("resource;from;to;\nKran;14.04.2026;14.04.2026;x\n")
+        self.faults(GERMAN.format("", "", ""), "away.csv: row 2, column D: a cell in a column without a name")
+
     def test_reversed(self) -> None:
         for cells, told in (("14.04.2026 18:00;14.04.2026 06:00", "'14.04.2026 06:00' is before '14.04.2026 18:00'"),
                             ("15.04.2026;14.04.2026", "'14.04.2026' is before '15.04.2026'"),

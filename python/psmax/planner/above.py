@@ -4,7 +4,7 @@ import os
 import re
 from collections.abc import Callable, Iterator, Mapping
 from contextlib import contextmanager
-from dataclasses import dataclass, field
+from dataclasses import dataclass
 
 from ..dates import read_moment, read_shift, read_workdays
 from ..errors import BadInput
@@ -37,8 +37,8 @@ NEAR = 0.75  # of two words, from when on one may be meant for the other
 class Above:
     """What the rows say, and in which row each setting stands."""
 
-    settings: Settings = field(default_factory=Settings)
-    rows: dict[str, int] = field(default_factory=dict)
+    settings: Settings
+    rows: dict[str, int]
 
     @contextmanager
     def named(self, file: str) -> Iterator[None]:
@@ -62,15 +62,8 @@ class Above:
 
 def read_above(file: str, sheet: Sheet, folder: str) -> Above:
     """All of the rows above the columns of a table that lies in this folder. All faults are told at once."""
-    faults, found, told = Faults(), Above(), dict[str, tuple[int, int, str]]()
-    for number, row in enumerate(sheet.above, 1):
-        place = next((place for place, text in enumerate(row) if text), None)
-        if place is not None and not row[place].startswith(NOTE):
-            with faults.kept():
-                name, text = setting_in(file, number, place, row)
-                if name in told:
-                    raise fault_at(file, number, place, "", f"a second row for '{name}'")
-                told[name] = number, place, text
+    faults = Faults()
+    told = named_values(file, sheet, faults)
     order = told["dates"][2] if "dates" in told else None
     for name, (number, place, text) in told.items():
         with faults.kept():
@@ -78,8 +71,21 @@ def read_above(file: str, sheet: Sheet, folder: str) -> Above:
             if why:
                 raise fault_at(file, number, place, "", why)
     faults.tell()
-    found.rows = {name: number for name, (number, _, _) in told.items()}
-    found.settings = from_rows({name: text for name, (*_, text) in told.items() if text}, folder)
+    return Above(from_rows({name: text for name, (*_, text) in told.items() if text}, folder),
+                 {name: number for name, (number, *_) in told.items()})
+
+
+def named_values(file: str, sheet: Sheet, faults: Faults) -> dict[str, tuple[int, int, str]]:
+    """Each setting with its row, the column of its name, and its value."""
+    found: dict[str, tuple[int, int, str]] = {}
+    for number, row in enumerate(sheet.above, 1):
+        place = next((place for place, text in enumerate(row) if text), None)
+        if place is not None and not row[place].startswith(NOTE):
+            with faults.kept():
+                name, text = setting_in(file, number, place, row)
+                if name in found:
+                    raise fault_at(file, number, place, "", f"a second row for '{name}'")
+                found[name] = number, place, text
     return found
 
 

@@ -1,4 +1,5 @@
-"""Lengths of time as people write them, and the period that divides them all."""
+"""Lengths of time as people write them, the period that divides them all, and days as spreadsheets count them."""
+import datetime
 import re
 from collections.abc import Iterable
 from dataclasses import dataclass, replace
@@ -7,9 +8,16 @@ from fractions import Fraction
 from functools import reduce
 from math import gcd
 
+from ..calendars import Calendar
+from ..dates import Moment
+
 NUMBER = r"[-+]?(?:[0-9]{1,9}(?:[.,][0-9]{1,6})?|[.,][0-9]{1,6})"
 DAY = 8 * 60  # minutes of work, where nothing says the hours of a day
 LENGTH = re.compile(rf"({NUMBER})\s*([^\W\d_]*)[.?]*")
+DAY_0 = datetime.datetime(1899, 12, 30)  # from which Excel, LibreOffice and their like count days
+LEAST_DAY, MOST_DAY = 36_526, 73_050  # of the years 2000 to 2099
+TEN_YEARS = datetime.timedelta(days=3653)
+FEWEST = 521  # periods in ten years, which are weeks then
 
 
 class Unit(Enum):
@@ -61,6 +69,32 @@ def time_after(text: str, own: Unit) -> Length | None:
     if found is None or not (found[2] or text.isdigit()) or found[2].lower() not in ("", *WORDS) or text.startswith("-"):
         return None
     return read_length(text, own)
+
+
+def day_of_serial(text: str, periods: int, calendar: Calendar | None) -> Moment | None:
+    """The day that a spreadsheet left as a number in a column of dates, where that is more periods than ten years have; none
+    where it is such a number of periods. ValueError says why it can be neither, or may be both."""
+    number = int(text)
+    is_like = LEAST_DAY <= number <= MOST_DAY
+    if periods <= FEWEST:
+        return None
+    if calendar is None:
+        if is_like and periods > TEN_YEARS.days:
+            raise ValueError(f"may be {counted_day(number):%Y-%m-%d}, as a spreadsheet counts days, and a date needs --from")
+        return None
+    start = calendar.begins(0)
+    if periods > calendar.from_on(start + TEN_YEARS):
+        if not is_like:
+            raise ValueError("is more periods than ten years have, and no date; write a date, or its unit too, as in 2 d")
+        return Moment(counted_day(number), True)
+    if is_like and abs(counted_day(number) - start) <= TEN_YEARS:
+        raise ValueError(f"may be so many periods after the start, or {counted_day(number):%Y-%m-%d}, as a spreadsheet counts "
+                         "days; write that date, or the unit too, as in 2 d")
+    return None
+
+
+def counted_day(number: int) -> datetime.datetime:
+    return DAY_0 + datetime.timedelta(number)
 
 
 @dataclass(frozen=True)

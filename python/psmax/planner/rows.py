@@ -11,8 +11,7 @@ from ..project import MOST_UNITS
 from .columns import Column, Columns
 from .csv_text import cell
 from .faults import CellFault, fault_at
-from .quantities import Length, Scale, Unit, number, read_length, time_after
-from .serials import day_of_serial
+from .quantities import Length, Scale, Unit, day_of_serial, number, read_length, time_after
 
 DATED = (Column.STARTED, Column.FINISHED, Column.NOT_BEFORE, Column.END_BY, Column.DUE)
 MONTHS = "jan feb mar mär mrz apr may mai jun jul aug sep oct okt nov dec dez"

@@ -12,8 +12,7 @@ from ..files import read_text
 from ..letters import short
 from ..project import MOST_UNITS
 from ..work_time import WorkTime, moment, must_be_period
-from .quantities import Scale, Unit, time_after
-from .serials import day_of_serial
+from .quantities import Scale, Unit, day_of_serial, time_after
 
 FILES = {"holidays": "the file of holidays", "absences": "the table of absences"}  # the settings that name files
 HOURS_OF_WORK = "08:00-12:00,13:00-17:00"  # of a day, where its length is needed and nobody says it
