@@ -83,7 +83,7 @@ class Meant(unittest.TestCase):
                        + summary(5, "frame", 1, link(1)) + task(6, "columns", 2))
         self.assertEqual(lags(made), {(name, "end", "columns", "start", 0, None) for name in ("dig", "line")})
         self.refused(("summary 'frame': a link to its end", "task 'roof': a link from the start of summary 'frame'",
-                      "task 'beams': a link between a summary and a task of its own"),
+                      "task 'beams': a link to itself, or between a summary and a task of its"),
                      task(1, "dig", 1) + summary(2, "frame", 1, link(1, 0)) + task(3, "columns", 2)
                      + task(4, "beams", 2, 8, link(2)) + task(5, "roof", 1, 8, link(2, 3)))
 

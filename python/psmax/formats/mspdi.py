@@ -218,7 +218,7 @@ class Document:
             raise BadInput(f"{self.called(uid)}: a link {side}, which is that of whichever task below it is first or last; "
                            "link its tasks")
         if {*tails} & {*heads}:
-            raise BadInput(f"{self.called(uid)}: a link between a summary and a task of its own")
+            raise BadInput(f"{self.called(uid)}: a link to itself, or between a summary and a task of its own")
         return [Link(tail, head, from_end, to_end, self.lag(uid, link)) for tail in tails for head in heads]
 
     def lag(self, uid: str, link: Element) -> int:
