@@ -1,15 +1,17 @@
 #!/usr/bin/env python3
 """tests/wrong.py [--only WORD]
 
-Tries wrong bodies that no contract refuses, and that a test has to refuse: the files of tests/wrong. Each has the lines of a
-must-fail edit, with paths from the top of the repository, and a line `test:` with what refuses it: a crate and one of its
-tests, which `rt try --test` runs without proofs, or a script of tests/ with its words. A script is run on the program that
-`rt run` proves and builds: psmax, or that of a line `program:`. Each is tried in one copy of the sources, which takes one to
-some minutes, for psprove more.
+Tries wrong bodies that the gate doesn't try: the files of tests/wrong. Each has the lines of a must-fail edit, with paths from
+the top of the repository, and a line that says what refuses it. Most have a line `test:`, since no contract refuses them: a
+crate and one of its tests, which `rt try --test` runs without proofs, or a script of tests/ with its words. A script is run on
+the program that `rt run` proves and builds: psmax, or that of a line `program:`. A line `proof: CRATE FUNCTION CLAUSE` says that
+the function doesn't meet the clause; `tests/check_one.py` looks at it alone, since a second proof of the crate would be dear.
+Each is tried in one copy of the sources, which takes one to some minutes, for psprove more.
 
 Prints what refused no wrong body. The last line counts them."""
 import contextlib
 import pathlib
+import re
 import shutil
 import sys
 from collections.abc import Iterator, Sequence
@@ -29,6 +31,7 @@ class Change(NamedTuple):
 
 class Wrong(NamedTuple):
     test: list[str]
+    proof: list[str]  # a crate, a function of it, and the clause that this breaks; empty where a test refuses it
     program: str  # the crate of the program that a script is run on
     changes: list[Change]
 
@@ -36,12 +39,15 @@ class Wrong(NamedTuple):
 def read(path: pathlib.Path) -> Wrong:
     """What has to refuse an edit, and its changes."""
     test: list[str] = []
+    proof: list[str] = []
     changes: list[Change] = []
     program, file, old = "psmax", "", ""
     for line in path.read_text().splitlines():
         key, _, value = line.partition(": ")
         if key == "test":
             test = value.split()
+        elif key == "proof":
+            proof = value.split()
         elif key == "program":
             program = value
         elif key == "file":
@@ -50,7 +56,7 @@ def read(path: pathlib.Path) -> Wrong:
             old = value
         elif key == "new":
             changes.append(Change(file, old, value))
-    return Wrong(test, program, changes)
+    return Wrong(test, proof, program, changes)
 
 
 @contextlib.contextmanager
@@ -75,7 +81,12 @@ def told(words: Sequence[object], folder: pathlib.Path) -> str:
 
 
 def is_refused(copy: pathlib.Path, wrong: Wrong) -> bool:
-    """Whether a test fails that ends. One that doesn't compile or has no answer in time refuses nothing."""
+    """Whether the clause is not proved, or a test fails that ends. What doesn't compile or has no answer in time refuses
+    nothing."""
+    if wrong.proof:
+        crate, name, clause = wrong.proof
+        said = told([sys.executable, TOP / "tests" / "check_one.py", copy / "crates" / crate, name], copy)
+        return re.search(rf"^fn [\w:]+::{name}: no proof: .*-clause-{clause}`", said, re.M) is not None
     if not wrong.test[0].endswith(".py"):
         crate, name = wrong.test
         said = told(["rt", "try", "--test"], copy / "crates" / crate)
@@ -99,7 +110,8 @@ def verdicts(words: Sequence[str]) -> Verdicts:
             wrong = read(path)
             if only in path.name:
                 with changed(copy, wrong.changes):
-                    yield path.stem, None if is_refused(copy, wrong) else f"not refused by {' '.join(wrong.test)}"
+                    fault = f"not refused by {' '.join(wrong.proof or wrong.test)}"
+                    yield path.stem, None if is_refused(copy, wrong) else fault
 
 
 if __name__ == "__main__":
