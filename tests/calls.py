@@ -219,7 +219,7 @@ REPORTS = ["--progress", "json"]
 # After the schedule of 7 periods both jobs are to run within 6, and take 7.
 TWO_EVENTS: list[Event] = [Schedule([0, 0, 3, 7]), Lemma(0, [], [Push(Clique(0, 6, [1, 2]), None)]), Claim("optimal 7")]
 TWO_LOG, TWO_CUT = text_of(TWO_EVENTS), text_of(TWO_EVENTS[:1])
-WRONG_LOG = b"psprove: the log to resume: event %d is wrong\npsprove: search refused\n"
+WRONG_LOG = b"psprove: more: event %d is wrong\n"
 PROOFS = [
     Call(VERIFY, WORKED_LOG, WORKED, out=b"proved optimal 8\n"),
     Call(VERIFY, log("0900010d0c15000c0102 02070e"), WORKED, out=b"proved bound 7\n"),
