@@ -140,7 +140,7 @@ def standard_input_is_followed(search: Search) -> Looked:
         run.stdin.write(line)
         run.stdin.flush()
         reports = map(json.loads, run.stderr)
-        found = next((report for report in reports if report.get("found") == "handed in"), {})
+        found: Answer = next((report for report in reports if report.get("found") == "handed in"), {})
         run.stdin.close()
         for _ in reports:
             pass

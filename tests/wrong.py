@@ -1,12 +1,12 @@
 #!/usr/bin/env python3
 """tests/wrong.py [--only WORD]
 
-Tries wrong bodies that the gate doesn't try: the files of tests/wrong. Each has the lines of a must-fail edit, with paths from
-the top of the repository, and a line that says what refuses it. Most have a line `test:`, since no contract refuses them: a
-crate and one of its tests, which `rt try --test` runs without proofs, or a script of tests/ with its words. A script is run on
-the program that `rt run` proves and builds: psmax, or that of a line `program:`. A line `proof: CRATE FUNCTION CLAUSE` says that
-the function doesn't meet the clause; `tests/check_one.py` looks at it alone, since a second proof of the crate would be dear.
-Each is tried in one copy of the sources, which takes one to some minutes, for psprove more.
+Tries wrong bodies that the gate doesn't try: the files of tests/wrong. Each has the lines of a must-fail edit, with paths
+from the top of the repository, and a line that says what refuses it. Most have a line `test:`, since no contract refuses
+them: a crate and one of its tests, which `rt try --test` runs without proofs, or a script of tests/ with its words. A
+script is run on the program that `rt run` proves and builds: psmax, or that of a line `program:`. A line `proof: CRATE
+FUNCTION CLAUSE` says that the function doesn't meet the clause; `tests/check_one.py` looks at it alone, since a second
+proof of the crate would be dear. Each is tried in one copy of the sources, which takes some minutes, for psprove more.
 
 Prints what refused no wrong body. The last line counts them."""
 import contextlib
