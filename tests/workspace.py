@@ -12,7 +12,7 @@ FRAMES = (
     ("session/src/session.rt", "run_jobs"), ("session/src/job.rt", "search_first"), ("session/src/link.rt", "search"),
     ("strategies/src/solver.rt", "advance"), ("strategies/src/turns.rt", "advance"), ("engine/src/search.rt", "search"),
 )
-TABLE = "| Crate | Layer | A change of it has so many crates proved again | Those of psprove's search |\n|---|---|---|---|\n"
+TABLE = "| Crate | Layer | Crates to prove again after a change | Of these, in psprove's search |\n|---|---|---|---|\n"
 SEARCH = ("strategies", "session", "psprove_run", "psprove")
 
 
