@@ -1,6 +1,8 @@
 # make          prove and build the programs, side by side on all processors
 # make test     run everything that is run, on the programs at hand; needs no toolchain
 # make gate     everything that must hold: the proofs from nothing, the released programs, and make test on what was proved
+# make wrong    try the wrong bodies that the gate doesn't try, and with CRATE=NAME those of one crate
+# make check-one CRATE=NAME FN=FUNCTION  prove one function, over the sources of the crates below
 # make release  release what was built
 # make install PREFIX=.., make uninstall PREFIX=..
 # make wheel    a package for pip in build/, with the released programs inside
@@ -32,6 +34,12 @@ build/psmax: $(SOURCES)
 
 test prove gate:
 	python3 tests/gate.py $@
+
+wrong:
+	python3 tests/wrong.py --crate "$(CRATE)"
+
+check-one:
+	python3 tests/check_one.py crates/$(CRATE) $(FN)
 
 release: build/psmax
 	python3 tests/gate.py release
@@ -84,4 +92,4 @@ lint:
 clean:
 	rm -rf build crates/*/out
 
-.PHONY: all test prove gate release bench reference reference-values reference-page install uninstall wheel deb lint clean
+.PHONY: all test prove gate wrong check-one release bench reference reference-values reference-page install uninstall wheel deb lint clean

@@ -31,9 +31,9 @@ def main(folder: str, function: str, more: list[str]) -> int:
     rt, here = library(), os.path.realpath(folder)
     crate = rt.Crate(here, rt.root_above(here) or here, {})
     with tempfile.TemporaryDirectory() as kept:
+        keeping = [] if "--incremental" in more else ["--incremental", kept]
         words = crate.words(["--jobs", "1", "--only", function, *more], as_source=True)
-        check = [rt.RATTLE, "check", *words, "--incremental", kept]
-        return subprocess.run(check, cwd=here, stdin=subprocess.DEVNULL).returncode
+        return subprocess.run([rt.RATTLE, "check", *words, *keeping], cwd=here, stdin=subprocess.DEVNULL).returncode
 
 
 if __name__ == "__main__":

@@ -1,78 +1,48 @@
 #!/usr/bin/env python3
-"""tests/wrong.py [--only WORD]
+"""tests/wrong.py [--crate NAME] [--only WORD] [--jobs N] [--anew]
 
-Tries wrong bodies that the gate doesn't try: the files of tests/wrong. Each has the lines of a must-fail edit, with paths
-from the top of the repository, and a line that says what refuses it. Most have a line `test:`, since no contract refuses
-them: a crate and one of its tests, which `rt try --test` runs without proofs, or a script of tests/ with its words. A
-script is run on the program that `rt run` proves and builds: psmax, or that of a line `program:`. A line `proof: CRATE
-FUNCTION CLAUSE` says that the function doesn't meet the clause; `tests/check_one.py` looks at it alone, since a second
-proof of the crate would be dear. Each is tried in one copy of the sources, which takes some minutes, for psprove more.
+Tries the wrong bodies that the gate doesn't try, side by side on copies of the crates: all of tests/wrong, or those of one
+crate, or those whose names have a word. Each stands in the folder of the crate that it changes, with the lines of a must-fail
+edit and a line that says what refuses it:
 
-Prints what refused no wrong body. The last line counts them."""
-import contextlib
+  proof: FUNCTION           the function doesn't meet its contract
+  test: CRATE TEST          a test of a crate fails, which `rt try --test` runs without proofs
+  script: FILE WORDS..      a script of tests/ fails on the program of a line `program:`, or on psmax, built without proofs
+  nothing: FUNCTION         it is let through, since the function promises less: so this script is seen to tell what is refused
+
+Where a crate has five proofs to try or more, `rt ci` tries them as must-fail edits, over one more proof of the crate. A
+single one is tried by tests/check_one.py.
+
+Prints a line for each: what refused it, or that it was let through. A run that was stopped goes on: `rt ci` keeps what it
+tried, and build/wrong.jsonl keeps the rest while the crate and those below stay as they are. --anew tries all again. The
+last line counts the bodies that came to what their line says."""
+import json
+import os
 import pathlib
+import queue
 import re
-import shutil
+import subprocess
 import sys
+import time
+from collections import Counter
 from collections.abc import Iterator, Sequence
-from typing import NamedTuple
+from concurrent.futures import ThreadPoolExecutor
 
 import harness
+import unproved
+import wrong_bodies
 from harness import TOP, Verdicts
+from wrong_bodies import Body
 
 SECONDS = 3600.0
-
-
-class Change(NamedTuple):
-    file: str
-    old: str
-    new: str
-
-
-class Wrong(NamedTuple):
-    test: list[str]
-    proof: list[str]  # a crate, a function of it, and the clause that this breaks; empty where a test refuses it
-    program: str  # the crate of the program that a script is run on
-    changes: list[Change]
-
-
-def read(path: pathlib.Path) -> Wrong:
-    """What has to refuse an edit, and its changes."""
-    test: list[str] = []
-    proof: list[str] = []
-    changes: list[Change] = []
-    program, file, old = "psmax", "", ""
-    for line in path.read_text().splitlines():
-        key, _, value = line.partition(": ")
-        if key == "test":
-            test = value.split()
-        elif key == "proof":
-            proof = value.split()
-        elif key == "program":
-            program = value
-        elif key == "file":
-            file = value
-        elif key == "old":
-            old = value
-        elif key == "new":
-            changes.append(Change(file, old, value))
-    return Wrong(test, proof, program, changes)
-
-
-@contextlib.contextmanager
-def changed(copy: pathlib.Path, changes: Sequence[Change]) -> Iterator[None]:
-    """The copy with the changes, and then as it was."""
-    texts = {copy / change.file: (copy / change.file).read_text() for change in changes}
-    try:
-        for change in changes:
-            text = (copy / change.file).read_text()
-            if text.count(change.old) != 1:
-                raise ValueError(f"{change.file} has {change.old!r} {text.count(change.old)} times")
-            (copy / change.file).write_text(text.replace(change.old, change.new))
-        yield
-    finally:
-        for file, text in texts.items():
-            file.write_text(text)
+MANY = 5  # so many proofs of a crate are tried over one more proof of it
+KEPT = TOP / "build" / "wrong.jsonl"
+LET_THROUGH = "let through"
+# What a check says of goals: those that no search proved, or the first that a written answer doesn't prove.
+OPEN_GOALS = re.compile(r"`search` did not prove .*$|(?<=error: )`[\w-]+`(?=: .*(types (first )?differ|expected type))", re.M)
+# What `rt ci` says of an edit.
+TRIED = re.compile(r"(?:rt: )?must-fail (\w+)/(\w+)\.edit: (.*)")
+Found = Iterator[tuple[Body, str]]  # what came of each body
 
 
 def told(words: Sequence[object], folder: pathlib.Path) -> str:
@@ -80,38 +50,114 @@ def told(words: Sequence[object], folder: pathlib.Path) -> str:
     return (output + faults).decode(errors="replace")
 
 
-def is_refused(copy: pathlib.Path, wrong: Wrong) -> bool:
-    """Whether the clause is not proved, or a test fails that ends. What doesn't compile or has no answer in time refuses
-    nothing."""
-    if wrong.proof:
-        crate, name, clause = wrong.proof
-        said = told([sys.executable, TOP / "tests" / "check_one.py", copy / "crates" / crate, name], copy)
-        return re.search(rf"^fn [\w:]+::{name}: no proof: .*-clause-{clause}`", said, re.M) is not None
-    if not wrong.test[0].endswith(".py"):
-        crate, name = wrong.test
-        said = told(["rt", "try", "--test"], copy / "crates" / crate)
-        _, failed, why = said.partition(f"test {name} ... FAILED\n")
-        return failed != "" and "no-answer" not in why.partition("\ntest ")[0]
-    folder, (script, *words) = copy / "crates" / wrong.program, wrong.test
-    told(["rt", "run", "--", "--version"], folder)
-    said = told([sys.executable, TOP / script, folder / "out" / wrong.program, *words], TOP)
-    return "\nFAILED " in f"\n{said}"
+def first_error(said: str) -> str:
+    return next((line for line in said.splitlines() if "error" in line), said[-200:])
+
+
+def by_check(copy: pathlib.Path, body: Body) -> str:
+    function = body.words[0]
+    kept = copy / "kept" / body.crate
+    kept.mkdir(parents=True, exist_ok=True)
+    check = [sys.executable, TOP / "tests" / "check_one.py", copy / "crates" / body.crate, function, "--incremental", kept]
+    said = told(check, copy)
+    if re.search(r"^only=(\d+) proved=\1$", said, re.M):
+        return LET_THROUGH
+    goal = OPEN_GOALS.search(said)
+    if not goal or not re.search(rf"^fn {body.crate}::(?:.*::)?{re.escape(function)}: (no proof|not proved)", said, re.M):
+        return f"not tried: {first_error(said)}"
+    return f"refused: {goal[0]}"
+
+
+def by_test(copy: pathlib.Path, body: Body) -> str:
+    crate, name = body.words
+    said = told(["rt", "try", "--test"], copy / "crates" / crate)
+    _, failed, why = said.partition(f"test {name} ... FAILED\n")
+    if failed and "no-answer" not in why.partition("\ntest ")[0]:
+        return f"refused: {name} of {crate}"
+    return LET_THROUGH if f"test {name} ... ok\n" in said else f"not tried: {said[-200:]}"
+
+
+def by_script(copy: pathlib.Path, body: Body) -> str:
+    program = copy / body.program
+    if not unproved.build(copy / "crates" / body.program, program):
+        return "not tried: it doesn't compile"
+    said = told([sys.executable, TOP / body.words[0], program, *body.words[1:]], TOP)
+    failed = re.search(r"^FAILED (.*)$", said, re.M)
+    return f"refused: {failed[1]}" if failed else LET_THROUGH if ", 0 failed" in said else f"not tried: {said[-200:]}"
+
+
+def tried(copy: pathlib.Path, body: Body) -> str:
+    """What comes of a body in a copy of the crates."""
+    ways = {"proof": by_check, "nothing": by_check, "test": by_test, "script": by_script}
+    try:
+        with wrong_bodies.changed(copy / "crates", body):
+            return ways[body.by](copy, body)
+    except (OSError, ValueError) as fault:
+        return f"not tried: {fault}"
+
+
+def by_edits(folder: pathlib.Path, bodies: Sequence[Body]) -> Found:
+    """What comes of bodies as must-fail edits of their crates."""
+    copy = wrong_bodies.copy_crates(folder / "edits")
+    named = {(body.crate, body.name): body for body in bodies}
+    for body in bodies:
+        wrong_bodies.write_edit(copy, body)
+    words = ["rt", "ci", *sorted({body.crate for body in bodies})] if bodies else ["true"]
+    with subprocess.Popen(words, cwd=copy, stdin=subprocess.DEVNULL, stdout=subprocess.PIPE, stderr=subprocess.STDOUT,
+                          text=True) as ran:
+        for match in filter(None, map(TRIED.match, ran.stdout or [])):
+            crate, name, said = match.groups()
+            how, _, why = said.partition(": ")
+            if said.startswith("NOT REFUSED"):
+                yield named.pop((crate, name)), LET_THROUGH
+            elif how == "refused, as it must be":
+                yield named.pop((crate, name)), f"refused: {why}"
+            else:
+                yield named.pop((crate, name)), f"not tried: {said}"
+    yield from ((body, "not tried: rt ci ended before") for body in named.values())
+
+
+def one_by_one(folder: pathlib.Path, bodies: Sequence[Body], jobs: int, anew: bool) -> Found:
+    """What comes of each body, by what was kept or by a try. Each try is kept."""
+    KEPT.parent.mkdir(exist_ok=True)
+    lines = KEPT.read_text().splitlines() if KEPT.exists() and not anew else []
+    kept: dict[str, str] = dict(map(json.loads, lines))
+    free: "queue.Queue[pathlib.Path]" = queue.Queue()
+    for number in range(jobs):
+        free.put(wrong_bodies.copy_crates(folder / str(number)))
+    with open(KEPT, "w" if anew else "a", buffering=1) as file, ThreadPoolExecutor(jobs) as pool:
+
+        def result(body: Body) -> tuple[Body, str]:
+            digest = wrong_bodies.digest(body)
+            if digest in kept:
+                return body, kept[digest]
+            copy = free.get()
+            found = tried(copy, body)
+            free.put(copy)
+            if not found.startswith("not tried"):
+                file.write(json.dumps((digest, found)) + "\n")
+            return body, found
+
+        yield from pool.map(result, bodies)
 
 
 def verdicts(words: Sequence[str]) -> Verdicts:
     parser = harness.Words(__doc__)
-    parser.add_argument("--only", default="")
-    only = parser.parse_args(words).only
-    with harness.new_folder() as copy:
-        shutil.copytree(TOP / "crates", copy / "crates", ignore=shutil.ignore_patterns("out"))
-        for name in ("crates.txt", "HANDLES"):
-            shutil.copy(TOP / name, copy)
-        for path in sorted((TOP / "tests" / "wrong").glob("*.edit")):
-            wrong = read(path)
-            if only in path.name:
-                with changed(copy, wrong.changes):
-                    fault = f"not refused by {' '.join(wrong.proof or wrong.test)}"
-                    yield path.stem, None if is_refused(copy, wrong) else fault
+    parser.add_argument("--crate", default="", metavar="NAME")
+    parser.add_argument("--only", default="", metavar="WORD")
+    parser.add_argument("--jobs", type=int, default=os.cpu_count(), metavar="N")
+    parser.add_argument("--anew", action="store_true")
+    given = parser.parse_args(words)
+    bodies, begun = wrong_bodies.bodies(given.crate, given.only), time.monotonic()
+    proofs = Counter(body.crate for body in bodies if body.by == "proof")
+    edits = [body for body in bodies if body.by == "proof" and proofs[body.crate] >= MANY]
+    others = [body for body in bodies if body not in edits]
+    with harness.new_folder() as folder:
+        for found in (by_edits(folder, edits), one_by_one(folder, others, given.jobs, given.anew)):
+            for body, said in found:
+                print(f"{(time.monotonic() - begun) / 60:6.1f} {body}: {said}"[:240], flush=True)
+                wanted = said == LET_THROUGH if body.by == "nothing" else said.startswith("refused: ")
+                yield str(body), None if wanted else said
 
 
 if __name__ == "__main__":
