@@ -1,7 +1,9 @@
 """Files: read with a clear fault, written whole or not at all, and looked at for changes."""
 import codecs
+import errno
 import os
 import pathlib
+import stat
 import sys
 import tempfile
 from collections.abc import Iterable, Mapping, MutableMapping, Sequence
@@ -132,7 +134,8 @@ def same_file(one: str, other: str) -> bool:
 
 
 def write_whole(path: str, data: bytes) -> None:
-    """Writes a file beside it and renames that, so the file is never half written."""
+    """Writes a file beside it and renames that, so the file is never half written, also where the power fails. A file that is
+    replaced hands on its mode."""
     must_be_writable(path)
     target = pathlib.Path(path).resolve()
     beside = None
@@ -140,13 +143,44 @@ def write_whole(path: str, data: bytes) -> None:
         with tempfile.NamedTemporaryFile(dir=target.parent, prefix=".plan-", delete=False) as file:
             beside = pathlib.Path(file.name)
             file.write(data)
-        beside.chmod(0o666 & ~mask())
+            hand_on_mode(target, file.fileno())
+            file.flush()
+            os.fsync(file.fileno())
         beside.replace(target)
+        keep_names(target.parent)
     except OSError as fault:
         raise Failed(f"cannot write {path}: {reason(fault)}") from None
     finally:
         if beside is not None:
             beside.unlink(missing_ok=True)
+
+
+def hand_on_mode(path: pathlib.Path, file: int) -> None:
+    """Gives a new file the mode of the one that it replaces, and its group. Where it can't have that group, the group may do
+    no more than everybody else may."""
+    try:
+        told = os.stat(path)
+    except FileNotFoundError:
+        return os.fchmod(file, 0o666 & ~mask())
+    mode = stat.S_IMODE(told.st_mode)
+    if os.fstat(file).st_gid != told.st_gid:
+        try:
+            os.fchown(file, -1, told.st_gid)
+        except PermissionError:
+            mode &= ~0o070 | (mode & 0o007) << 3
+    os.fchmod(file, mode)
+
+
+def keep_names(folder: pathlib.Path) -> None:
+    """Has the disk keep what the files of a folder are called now."""
+    place = os.open(folder, os.O_RDONLY | os.O_DIRECTORY)
+    try:
+        os.fsync(place)
+    except OSError as fault:
+        if fault.errno != errno.EINVAL:  # of file systems whose folders can't be flushed
+            raise
+    finally:
+        os.close(place)
 
 
 def write_new(files: Mapping[str, bytes]) -> bool:
