@@ -33,7 +33,8 @@ from psmax.clock import Clock  # noqa: E402
 from psmax.cubes import cube  # noqa: E402
 from psmax.cubes.driver import Driver, used  # noqa: E402
 from psmax.cubes.machines import Machines  # noqa: E402
-from psmax.cubes.tree import ROWS, Driven, Tree, read_rows  # noqa: E402
+from psmax.cubes.folder import ROWS  # noqa: E402
+from psmax.cubes.tree import Driven, Tree, read_rows  # noqa: E402
 from psmax.incumbent import Incumbent  # noqa: E402
 from psmax.project_text import ProjectText, parse  # noqa: E402
 from psmax.psmax import starts_text  # noqa: E402

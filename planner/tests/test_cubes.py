@@ -146,7 +146,8 @@ class Here(InCubes):
         self.assertIn("cubes: 16 refuted, 0 open, 0 running; 100.0 %", plan("status", self.out).stdout)
 
     def test_wrong_logs(self) -> None:
-        """One is cut and two are exchanged: their cubes, and those that got the lemma of one, are named and searched again."""
+        """One is cut and two are exchanged: a join names their cubes, and those that got the lemma of one. The three alone are
+        searched again, with what they were given, so that the others stand."""
         self.solved()
         names = {row["number"]: row["cube"] for row in self.rows("given")}
         cut, one, other = (self.out / "cubes" / f"{number}.log" for number in [*names][-3:])
@@ -160,8 +161,17 @@ class Here(InCubes):
         self.assertIn((names[int(cut.stem)], "event 1 is wrong"), named)
         self.assertLessEqual({(names[int(path.stem)], "its log does not refute it") for path in (one, other)}, {*named})
         self.assertRegex(ran.stdout, "proved bound [0-9], of ")
-        self.solved(aside=len(named))
-        self.assertEqual(len(self.rows("ended")), 17 + len(named))
+        told = self.solved()
+        self.assertEqual((len(self.rows("ended")), told.count(".log is damaged; it is searched again")), (17 + 3, 3))
+
+    def test_logs_that_were_never_right(self) -> None:
+        """What is wrong is seen at the join: the cubes, and those that got the lemma of one, are searched again."""
+        self.solved()
+        log = self.out / "cubes" / f"{self.rows('given')[-1]['number']}.log"
+        log.write_bytes(log.read_bytes()[:-5])
+        with mock.patch("psmax.cubes.tree.Driven.look", return_value=()):
+            self.solved(aside=1)
+        self.assertEqual(len(self.rows("ended")), 17 + 1)
 
     def test_a_search_that_fails(self) -> None:
         """Each time: the cube is named, and the same command with a psprove that works goes on."""
@@ -224,7 +234,7 @@ class ByPsprove(InCubes):
 
     def test_settled_at_first(self) -> None:
         """One search proves it. Once its log is cut, the project is searched again."""
-        for count, told in enumerate(["proved: psprove solve", "1.log is put aside"]):
+        for count, told in enumerate(["proved: psprove solve", "1.log is damaged; it is searched again"]):
             ran = plan("solve", self.project, "--out", f"{self.out}/")
             self.assertEqual((ran.returncode, ran.stdout.splitlines()[0]), (0, "optimal 9"), ran.stderr)
             self.assertIn(told, ran.stderr)
@@ -250,7 +260,7 @@ class ByPsprove(InCubes):
         self.assertRegex(ran.stdout, "proved bound [0-9]+, of ")
         told = self.lots()
         for path in (first, second, third):
-            self.assertIn(f"{path} is put aside", told)
+            self.assertIn(f"{path} is damaged; it is searched again", told)
 
 
 class Search(InCubes):
@@ -266,9 +276,9 @@ class Search(InCubes):
         """They come while it runs. Without the folder of the driver its files come back by themselves."""
         told = iter([None, [0, 0, 8, 3, 5, 10]])  # which is no shorter than those it knows
         row = self.search(0.5, lambda: {"starts": next(told, [0, 0, 7, 3, 5, 9])})
-        log = json.loads(zlib.decompress(row["files"]["log"]).split(b"\n")[1])
+        log = json.loads(zlib.decompress(row["files"]["log"]["data"]).split(b"\n")[1])
         self.assertEqual((row["cube"], row["starts"], log["below"], log["path"]), ("refuted", None, 9, [[1, 2, 3]]))
-        self.assertEqual(zlib.decompress(row["files"]["lemmas"]), b"2 1 2 3\n")
+        self.assertEqual(zlib.decompress(row["files"]["lemmas"]["data"]), b"2 1 2 3\n")
 
     def test_nobody_waits(self) -> None:
         began = time.monotonic()

@@ -4,6 +4,7 @@ import stat
 from unittest import mock
 
 from psmax import files
+from psmax.errors import Failed
 
 from .helpers import InFolder
 
@@ -16,7 +17,8 @@ class Written(InFolder):
         """A file that is replaced keeps its mode, also behind a link; a new one gets that of the umask."""
         before = os.umask(0o027)
         self.addCleanup(os.umask, before)
-        for name, was, mode in (("secret", 0o600, "0600"), ("open", 0o666, "0666"), ("run", 0o755, "0755"), ("new", None, "0640")):
+        modes = ("secret", 0o600, "0600"), ("open", 0o666, "0666"), ("run", 0o755, "0755"), ("new", None, "0640")
+        for name, was, mode in modes:
             with self.subTest(name):
                 if was is not None:
                     self.file(name, "before").chmod(was)
@@ -39,6 +41,6 @@ class Written(InFolder):
         """What was there stays, and nothing lies beside it."""
         path = self.file("there", "before")
         with mock.patch("os.fsync", side_effect=OSError(28, "No space left on device")):
-            with self.assertRaisesRegex(files.Failed, "cannot write .*: no space left on device"):
+            with self.assertRaisesRegex(Failed, "cannot write .*: no space left on device"):
                 files.write_whole(str(path), b"after")
         self.assertEqual([(path.name, path.read_text()) for path in self.folder.iterdir()], [("there", "before")])

@@ -6,7 +6,8 @@ import pathlib
 import stat
 import sys
 import tempfile
-from collections.abc import Iterable, Mapping, MutableMapping, Sequence
+from collections.abc import Iterable, Iterator, Mapping, MutableMapping
+from contextlib import contextmanager
 from typing import TextIO
 from weakref import WeakKeyDictionary
 
@@ -98,61 +99,45 @@ def must_be_writable(path: str) -> None:
         raise Failed(f"cannot write {path}: the folder {folder} may not be changed")
 
 
-def guard(outputs: Sequence[str | None], inputs: Mapping[str, str]) -> None:
-    """Tells before anything is done that an output could not be written, or would take the place of an input or of
-    another output. Inputs stand by what they are."""
-    named = [output for output in outputs if output is not None]
-    for place, output in enumerate(named):
-        must_be_writable(output)
-        for what, path in inputs.items():
-            if os.path.exists(path) and same_file(output, path):
-                raise BadInput(f"{output} is {what}, which would be lost")
-        if any(same_file(output, other) for other in named[:place]):
-            raise BadInput(f"{output} can't hold two outputs at once")
-
-
-def must_be_like(path: str | None, begin: bytes, what: str) -> None:
-    """Tells before anything is done that a file which would be replaced is none of its kind, but a plan, for
-    example."""
-    there = read_bytes(path) if path is not None and os.path.isfile(path) else b""
-    if there.strip() and not there.removeprefix(MARK).startswith(begin):
-        raise BadInput(f"{path} is there, and no {what}, and would be lost; name another file")
-
-
-def must_be_empty(folder: str | None) -> None:
-    """A folder for records is a new one, or has nothing in it."""
-    if folder is not None and os.path.exists(folder) and not (os.path.isdir(folder) and not os.listdir(folder)):
-        raise BadInput(f"{folder} is no empty folder; name a new one with --out")
-
-
-def same_file(one: str, other: str) -> bool:
-    """Whether both names lead to one file, by links too; it need not be there."""
-    try:
-        return os.path.samefile(one, other)
-    except OSError:
-        return os.path.realpath(one) == os.path.realpath(other)
-
-
 def write_whole(path: str, data: bytes) -> None:
     """Writes a file beside it and renames that, so the file is never half written, also where the power fails. A file that is
     replaced hands on its mode."""
     must_be_writable(path)
     target = pathlib.Path(path).resolve()
-    beside = None
     try:
-        with tempfile.NamedTemporaryFile(dir=target.parent, prefix=".plan-", delete=False) as file:
-            beside = pathlib.Path(file.name)
+        with beside(target, data) as made:
+            made.replace(target)
+            keep_names(target.parent)
+    except OSError as fault:
+        raise Failed(f"cannot write {path}: {reason(fault)}") from None
+
+
+@contextmanager
+def beside(target: pathlib.Path, data: bytes) -> Iterator[pathlib.Path]:
+    """A file in the same folder, which the disk has. It is deleted, unless it gets another name."""
+    with tempfile.NamedTemporaryFile(dir=target.parent, prefix=".plan-", delete=False) as file:
+        made = pathlib.Path(file.name)
+        try:
             file.write(data)
             hand_on_mode(target, file.fileno())
             file.flush()
             os.fsync(file.fileno())
-        beside.replace(target)
+            yield made
+        finally:
+            made.unlink(missing_ok=True)
+
+
+def rename_whole(made: str, path: str) -> None:
+    """Gives a file that lies in the folder of another its name, as if it were written whole."""
+    try:
+        target = pathlib.Path(path).resolve()
+        with open(made, "rb") as file:
+            hand_on_mode(target, file.fileno())
+            os.fsync(file.fileno())
+        os.replace(made, target)
         keep_names(target.parent)
     except OSError as fault:
         raise Failed(f"cannot write {path}: {reason(fault)}") from None
-    finally:
-        if beside is not None:
-            beside.unlink(missing_ok=True)
 
 
 def hand_on_mode(path: pathlib.Path, file: int) -> None:
@@ -187,21 +172,30 @@ def write_new(files: Mapping[str, bytes]) -> bool:
     """Writes each file whole where none of them is there, and otherwise nothing. Whether it did."""
     made: list[str] = []
     try:
-        for path in files:
-            os.close(os.open(path, os.O_CREAT | os.O_EXCL, 0o666))
-            made.append(path)
         for path, data in files.items():
-            write_whole(path, data)
+            with beside(pathlib.Path(path), data) as whole:
+                put_new(whole, path)
+            made.append(path)
+        for folder in {os.path.dirname(path) or "." for path in files}:
+            keep_names(pathlib.Path(folder))
         return True
-    except FileExistsError:
-        pass
     except OSError as fault:
-        raise Failed(f"cannot write {fault.filename}: {reason(fault)}") from None
-    finally:
         for path in made:
-            if os.path.getsize(path) == 0:
-                os.unlink(path)
+            os.unlink(path)
+        if not isinstance(fault, FileExistsError):
+            raise Failed(f"cannot write {fault.filename}: {reason(fault)}") from None
     return False
+
+
+def put_new(whole: pathlib.Path, path: str) -> None:
+    """Gives a file a name that no file has."""
+    try:
+        os.link(whole, path)
+    except FileExistsError:
+        raise
+    except OSError:  # of file systems without links
+        os.close(os.open(path, os.O_CREAT | os.O_EXCL, 0o666))
+        os.replace(whole, path)
 
 
 def mask() -> int:
@@ -237,6 +231,6 @@ class Saves:
 def stamp(path: str) -> Stamp:
     try:
         told = os.stat(path)
-    except OSError:
+    except (OSError, ValueError):  # ValueError of a name that no file can have
         return None
     return told.st_mtime_ns, told.st_size, told.st_ino

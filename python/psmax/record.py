@@ -14,6 +14,7 @@ from .project_text import ProjectText
 from .psmax import Psmax
 from .psprove import Psprove
 
+BEGIN = b"record "  # of each
 OF_PSMAX = b"record 1\n"  # how a record of a tree begins; any other one is of lemmas
 PROVED = re.compile(r"proved (no schedule|(bound|optimal) (\d+))")
 WRONG = 4  # the exit status of the programs for a record that is wrong

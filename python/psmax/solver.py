@@ -4,9 +4,9 @@ from collections.abc import Callable, Mapping
 
 from . import psmax, whatif
 from .answer import Answer, Changed, Checked, Float, Progress, Schedule, Starts, Status, Violation, ViolationKind
+from .call_files import lose_none, must_be_like
 from .clock import Clock
 from .errors import BadInput, Failed
-from .files import guard
 from .incumbent import Incumbent, News
 from .letters import at_most, short
 from .model import Absence, Activity, Lag, Parts, Resource, whole
@@ -14,7 +14,7 @@ from .project import MOST_UNITS, Kind, least_end
 from .project import Project as Numbers
 from .psmax import Psmax
 from .psprove import Psprove
-from .record import Record
+from .record import BEGIN, Record
 from .search import TreeSearch, search
 from .project_text import ProjectText
 from .total import TotalFloat
@@ -67,7 +67,8 @@ def solve(project: Parts, seconds: float, jobs: int | None, on_progress: Hear, s
           proved_by: str, minimize: str) -> Answer:
     if proved_by not in PROVED_BY:
         raise BadInput(f"proved_by {short(str(proved_by))}: neither {' nor '.join(PROVED_BY)}")
-    guard([record], {})
+    lose_none({}, [record])
+    must_be_like(record, BEGIN, "record")
     numbers, clock, count = project.numbers(minimize), clock_of(seconds), jobs_of(jobs)
     known, listener = Incumbent(clock, numbers), Listener(project, clock, on_progress)
     known.listener = listener.news

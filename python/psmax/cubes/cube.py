@@ -1,11 +1,11 @@
 """The search of one cube, as a worker runs it: a psprove that follows what is known elsewhere. Dask sends this module by value,
 so it imports nothing of the package. A worker needs Dask, and the psprove that $PSPROVE names or its PATH has."""
 import contextlib
+import hashlib
 import json
 import os
 import pathlib
 import secrets
-import shutil
 import subprocess
 import tempfile
 import time
@@ -114,13 +114,30 @@ def say(child: subprocess.Popen[bytes], line: str) -> None:
 
 
 def sent(task: Row, here: pathlib.Path) -> Row:
-    """The files that were made. Where this machine sees the driver's folder they are left there, by a new name."""
-    folder, name = pathlib.Path(task["folder"]), secrets.token_hex(8)
-    try:
-        if (folder / "token").read_text() != task["run"]:
-            raise FileNotFoundError
-    except OSError:
-        return {file: zlib.compress((here / file).read_bytes(), 1) for file in MADE}
+    """The files that were made, by their digests. Where this machine sees the driver's folder they are left there, under names
+    that their digests make, and otherwise they come with the answer."""
+    incoming, found = pathlib.Path(task["folder"], "incoming"), {}
+    sees = is_seen(task)
     for file in MADE:
-        shutil.copyfile(here / file, folder / "incoming" / f"{name}.{file}")
-    return dict.fromkeys(MADE, name)
+        data = (here / file).read_bytes()
+        sha256 = hashlib.sha256(data).hexdigest()
+        found[file] = {"sha256": sha256, "data": None if sees else zlib.compress(data, 1)}
+        if sees:
+            leave(incoming, f"{sha256}.{file}", data)
+    return found
+
+
+def is_seen(task: Row) -> bool:
+    """Whether the driver's folder is there, which its token shows."""
+    try:
+        return bool(pathlib.Path(task["folder"], "token").read_text() == task["run"])
+    except (OSError, ValueError):
+        return False
+
+
+def leave(folder: pathlib.Path, name: str, data: bytes) -> None:
+    """Writes a new file, and gives it its name once it is whole."""
+    made = folder / f"{name}-{secrets.token_hex(8)}"
+    with open(made, "xb") as file:
+        file.write(data)
+    os.replace(made, folder / name)

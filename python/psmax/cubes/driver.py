@@ -12,6 +12,7 @@ from ..incumbent import Incumbent
 from ..project_text import ProjectText
 from ..psmax import Psmax, starts_text
 from ..psprove import Limits, Psprove
+from . import answer
 from .cube import SECONDS, Row
 from .machines import Machines
 from .tree import WHOLE, Cube, Driven
@@ -90,7 +91,7 @@ class Driver:
             if self.known.starts is None and not self.tree.number:
                 self.first()
             self.machines.tell(self.best())
-            while (self.tree.waiting or self.tree.running) and not self.known.clock.over():
+            while self.tree.is_open() and not self.known.clock.over():
                 room = self.machines.room()
                 self.give(room)
                 found = self.machines.next(GLANCE)
@@ -106,14 +107,19 @@ class Driver:
         return self.spelled.inward(starts) if starts is not None and self.spelled.has(starts) else None
 
     def give(self, room: int) -> None:
+        """Searches that are made again come first, and get what they got before."""
+        for number in self.tree.repeats()[: max(0, room - len(self.tree.running))]:
+            lemmas, begun = self.tree.give_again(number), self.tree.begun[number]
+            task = self.task(self.tree.cubes[self.tree.running[number]], lemmas, None if begun is None else (*begun,))
+            self.machines.give({"number": number, **task, "below": 0})  # so it is told of no shorter schedule
         while self.tree.waiting and len(self.tree.running) < room:
-            name = self.tree.next()
+            name, best = self.tree.next(), self.best()
             lemmas = self.lemmas.chosen(self.tree.lemmas(name))
-            number = self.tree.give(name, lemmas)
-            self.machines.give({"number": number, **self.task(self.tree.cubes[name], lemmas)})
+            number = self.tree.give(name, lemmas, best)
+            self.machines.give({"number": number, **self.task(self.tree.cubes[name], lemmas, best)})
 
-    def task(self, cube: Cube, lemmas: str) -> Row:
-        age, best = cube.age, self.best()
+    def task(self, cube: Cube, lemmas: str, best: tuple[int, ...] | None) -> Row:
+        age = cube.age
         path = "".join(f"{i} {j} {v}\n" for i, j, v in cube.arcs)
         files = {"project": self.spelled.text, "path": path.encode(), "import": lemmas.encode(),
                  "start": b"" if best is None else starts_text(best)}
@@ -125,9 +131,13 @@ class Driver:
 
     def take(self, number: int, row: Row | Exception) -> None:
         name = self.tree.running[number]
-        if isinstance(row, Exception):
+        try:
+            if isinstance(row, Exception):
+                raise row
+            row = answer.checked(row, self.tree.folder, self.spelled.end)
+        except Exception as fault:
             self.tree.write("lost", number=number)
-            return self.fail(name, row)
+            return self.fail(name, fault)
         if row["starts"] is not None:
             if self.is_schedule(tuple(row["starts"]), f"cube {name or WHOLE}"):
                 self.machines.tell(self.best())

@@ -4,6 +4,7 @@ import logging
 import math
 import pathlib
 import queue
+import re
 import secrets
 import site
 import sys
@@ -16,11 +17,13 @@ from typing import Any, NamedTuple, Protocol
 from ..errors import Failed
 from . import cube, part
 from .cube import Ask, Row
+from .folder import write
 
 FETCH = 30.0  # seconds for a result's way to the driver
 AHEAD = 1.2  # cubes with a cluster for each of its threads, so that none waits for the driver
 CONNECT = 10.0  # seconds
 MISSING = "--cluster needs Dask ({}): install python3-distributed, or `pip install distributed`"
+RUN = re.compile("cubes-[0-9a-f]{16}")
 LOST = "the scheduler is lost; start one, and give the same command again"
 
 
@@ -79,9 +82,9 @@ class Machines:
     def begin(self, folder: pathlib.Path) -> None:
         """Marks the folder as that of this run. Searches of a run before it end."""
         token = folder / "token"
-        if token.exists():
-            self.end(token.read_text())
-        token.write_text(self.run)
+        if token.exists() and RUN.fullmatch(before := token.read_text(errors="replace")):
+            self.end(before)
+        write(token, self.run.encode())
 
     def end(self, run: str) -> None:
         pass

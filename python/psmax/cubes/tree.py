@@ -1,29 +1,30 @@
 """The tree of the cubes of a project, as it stands in a folder. One driver writes it; nobody else has to agree on anything.
 
+mark          the version of the folder, and the SHA-256 of the project
 project.sch   the project
 rows          a line of JSON for each step: the first search has ended, a driver has begun, a cube is given out, its search
-              has ended or is lost, or its logs are put aside
-cubes/N.log   what search N proves; N.import has the lemmas that it got, and N.lemmas its own
-incoming      files on their way there
+              has ended or is lost, its log is damaged, or its logs are put aside. Each has a checksum
+cubes/N.log   what search N proves; N.import has the lemmas that it got, and N.lemmas its own. Rows have their SHA-256
+incoming      files on their way there, by their SHA-256
 token         the run's: a worker that reads it sees the folder, and leaves its files there
 tree          the logs, for `psprove join`
+start         the shortest schedule, for the same
 proved        what the last join proves"""
-import fcntl
 import json
 import os
 import pathlib
 import time
 import zlib
-from collections.abc import Iterator
+from collections.abc import Callable, Iterator
 from dataclasses import dataclass, replace
-from typing import IO
 
 from ..errors import BadInput
-from ..files import write_whole
+from . import folder as folders
 from .cube import MADE, TOLD, Row
+from .folder import CUBES, INCOMING, PROJECT, ROWS, digest, digest_of, write
 
-ROWS = "rows"  # by which a folder of cubes is known
 WHOLE = "-"  # what the cube without a path is called by psprove
+SUM = ', "sum": "'  # before the checksum of a row
 
 
 @dataclass(frozen=True)
@@ -40,6 +41,9 @@ class Tree:
         self.cubes = {"": Cube()}
         self.waiting = {""}
         self.running: dict[int, str] = {}  # by the numbers of their searches
+        self.damaged: dict[int, str] = {}  # searches that are made again, since their logs are no longer what they were
+        self.digests: dict[int, dict[str, str]] = {}  # of the files of each search, by their kinds
+        self.begun: dict[int, list[int] | None] = {}  # with which schedule each search began
         self.refuted: set[str] = set()
         self.logs: dict[int, str] = {}  # the searches whose logs are joined, in the order of their ends, with their cubes
         self.starts: tuple[int, ...] | None = None  # of the shortest schedule, by the numbers of the text
@@ -54,24 +58,27 @@ class Tree:
             self.take(row)
 
     def take(self, row: Row) -> None:
+        steps: dict[str, Callable[[Row], None]] = {
+            "given": self.hand_out, "first": self.begin, "ended": self.end, "begun": self.go_on,
+            "lost": lambda row: self.abandon(row["number"]), "damaged": lambda row: self.doubt(row["number"]),
+            "aside": lambda row: self.open_again(row["cube"])}
         self.seconds = row["at"]
-        if row["step"] == "given":
-            self.number = row["number"]
-            self.waiting.discard(row["cube"])
-            self.running[self.number] = row["cube"]
-        elif row["step"] == "first":
-            self.begin(row)
-        elif row["step"] == "ended":
-            self.end(row)
-        elif row["step"] == "lost":
-            self.abandon(row["number"])
-        elif row["step"] == "begun":
-            self.abandon_all()
-            self.learn(row["starts"])
-            self.offset = row["offset"]
-        else:
-            self.open_again(row["cube"])
+        steps[row["step"]](row)
+        self.digests.setdefault(row.get("number", 0), {}).update(row.get("sha256", {}))
         self.shares.append((row["at"], self.share))
+
+    def hand_out(self, row: Row) -> None:
+        """A search that is made again has the number that it had."""
+        self.number = max(self.number, row["number"])
+        self.waiting.discard(row["cube"])
+        self.running[row["number"]] = row["cube"]
+        self.begun[row["number"]] = row.get("starts")
+
+    def go_on(self, row: Row) -> None:
+        """A driver has begun."""
+        self.abandon_all()
+        self.learn(row["starts"])
+        self.offset = row["offset"]
 
     def begin(self, row: Row) -> None:
         """The first search is one of the whole project, which a driver gives out again where it stays open."""
@@ -83,18 +90,22 @@ class Tree:
             self.refute("")
 
     def end(self, row: Row) -> None:
-        name = self.running.pop(row["number"])
+        """One that was made again leaves a cube split that is."""
+        number = row["number"]
+        name, is_split = self.running.pop(number), number in self.damaged and not self.is_leaf(self.damaged[number])
         cube = self.cubes[name]
+        self.damaged.pop(number, None)
         self.count(row)
-        if row["state"] == "refuted":
+        if row["state"] == "refuted" and not is_split:
             self.refute(name)
         children = {name + one["name"]: Cube(cube.arcs + tuple(map(tuple, one["arcs"])), cube.age + 1)
-                    for one in row["pieces"] if one["name"]}
-        if children or row["state"] == "refuted":
-            self.logs[row["number"]] = name
+                    for one in row["pieces"] if one["name"] and not is_split}
+        if children or is_split or row["state"] == "refuted":
+            self.logs[number] = name
             self.cubes |= children
             self.waiting |= {*children}
         else:  # it can't be split: searched again, for longer
+            self.logs.pop(number, None)
             self.cubes[name] = replace(cube, age=cube.age + 1)
             self.waiting.add(name)
 
@@ -112,48 +123,77 @@ class Tree:
         if starts is not None and (self.starts is None or starts[-1] < self.starts[-1]):
             self.starts = tuple(starts)
 
-    def open_again(self, name: str) -> None:
-        """Without its logs; a cube that was split stays so."""
-        self.logs = {number: other for number, other in self.logs.items() if other != name}
+    def doubt(self, number: int) -> None:
+        """The log of the search is damaged. It keeps its place, and counts again once the search is made again."""
+        name = self.damaged[number] = self.logs[number]
         if name in self.refuted:
             self.refuted.discard(name)
             self.share -= part(name)
+
+    def open_again(self, name: str) -> None:
+        """Without its logs; a cube that was split stays so."""
+        was_refuted = name in self.refuted
+        if was_refuted:
+            self.refuted.discard(name)
+            self.share -= part(name)
+        if was_refuted or name in self.damaged.values() and self.is_leaf(name):
             self.waiting.add(name)
+        self.logs = {number: other for number, other in self.logs.items() if other != name}
+        self.damaged = {number: other for number, other in self.damaged.items() if other != name}
+
+    def is_leaf(self, name: str) -> bool:
+        """Whether the cube is not split."""
+        return not any(other != name and other.startswith(name) for other in self.cubes)
 
     def abandon(self, number: int) -> None:
         """The search is lost: its cube waits again."""
-        self.waiting.add(self.running.pop(number))
+        name = self.running.pop(number)
+        if number not in self.damaged:
+            self.waiting.add(name)
 
     def abandon_all(self) -> None:
         """Those of a driver that is there no more."""
         for number in [*self.running]:
             self.abandon(number)
 
+    def repeats(self) -> list[int]:
+        """The searches that are to be made again."""
+        return [number for number in self.damaged if number not in self.running]
+
+    def is_open(self) -> bool:
+        """Whether there is still something to search."""
+        return bool(self.waiting or self.running or self.damaged)
+
+    def whole(self) -> Iterator[tuple[int, str]]:
+        """The searches whose logs are not damaged, with their cubes, in the order of their ends."""
+        return ((number, name) for number, name in self.logs.items() if number not in self.damaged)
+
     def next(self) -> str:
         """Of the cubes that wait, the first one of those that were split most often."""
         return min(self.waiting, key=lambda name: (-self.cubes[name].age, name))
 
     def state(self) -> str:
-        return (f"cubes: {len(self.refuted)} refuted, {len(self.waiting)} open, {len(self.running)} running; "
+        count = len(self.waiting) + len(self.repeats())
+        return (f"cubes: {len(self.refuted)} refuted, {count} open, {len(self.running)} running; "
                 f"{100 * self.share:.1f} % of the tree")
 
     def file(self, number: int, kind: str) -> pathlib.Path:
-        return self.folder / "cubes" / f"{number}.{kind}"
+        return self.folder / CUBES / f"{number}.{kind}"
 
     def lemmas(self, under: str | None = None) -> Iterator[str]:
         """Those of each log, or of the logs of the cubes above one."""
-        for number, name in self.logs.items():
+        for number, name in self.whole():
             if under is None or under.startswith(name):
                 yield self.file(number, "lemmas").read_text()
 
     def write_list(self) -> pathlib.Path:
         """The file for `psprove join`: the logs in the order of their ends."""
         lines = []
-        for number, name in self.logs.items():
+        for number, name in self.whole():
             got = f"cubes/{number}.import" if self.file(number, "import").stat().st_size else "-"
             arcs = (f"{place}" for arc in self.cubes[name].arcs for place in arc)
             lines.append(" ".join([name or WHOLE, f"cubes/{number}.log", got, *arcs]) + "\n")
-        write_whole(f"{self.folder / 'tree'}", "".join(lines).encode())
+        write(self.folder / "tree", "".join(lines).encode())
         return self.folder / "tree"
 
 
@@ -161,52 +201,71 @@ class Driven(Tree):
     """The tree as its driver has it, which holds its lock."""
 
     def __init__(self, folder: pathlib.Path, project: bytes) -> None:
-        text = folder / "project.sch"
-        if folder.exists() and any(folder.iterdir()) and not text.exists():
-            raise BadInput(f"{folder} is no folder of cubes; name a new one with --out")
-        if text.exists() and text.read_bytes() != project:
-            raise BadInput(f"{folder} was begun with another project; name a new one with --out")
-        for kind in ("cubes", "incoming"):
-            (folder / kind).mkdir(parents=True, exist_ok=True)
-        self.rows = locked(folder)
-        write_whole(str(text), project)
-        for left in (folder / "incoming").iterdir():
-            left.unlink()
-        super().__init__(folder)
+        folders.mark(folder, project)
+        self.rows = folders.locked(folder)
+        try:
+            folders.clean(folder)
+            if digest_of(folder / PROJECT) != digest(project):
+                write(folder / PROJECT, project)
+            super().__init__(folder)
+        except BaseException:
+            self.rows.close()
+            raise
         self.abandon_all()
         self.before = self.seconds - time.monotonic()
 
     def write(self, step: str, **row: object) -> None:
+        """A row, which the disk has before anything follows from it."""
         found = {"step": step, "at": round(self.before + time.monotonic(), 2), **row}
-        self.rows.write(json.dumps(found).encode() + b"\n")
+        self.rows.write(f"{with_sum(json.dumps(found))}\n".encode())
         self.rows.flush()
+        os.fsync(self.rows.fileno())
         self.take(found)
 
-    def give(self, name: str, lemmas: str) -> int:
+    def look(self) -> Iterator[str]:
+        """Finds logs that are no longer what they were, with a line for each file. Their searches are made again with what
+        they were given, so that others which got their lemmas stand. Without that the cube is opened again."""
+        for number, name in [*self.logs.items()]:
+            bad = [kind for kind in ("import", *MADE) if self.is_damaged(number, kind)]
+            if "import" in bad:
+                self.write("aside", cube=name)
+            elif bad and number not in self.damaged:
+                self.write("damaged", number=number)
+            yield from (f"cube {name or WHOLE}: {self.file(number, kind)} is damaged; it is searched again" for kind in bad)
+
+    def is_damaged(self, number: int, kind: str) -> bool:
+        return digest_of(self.file(number, kind)) != self.digests.get(number, {}).get(kind)
+
+    def give(self, name: str, lemmas: str, starts: tuple[int, ...] | None) -> int:
         """The number of a search of the cube, which gets these."""
         number = self.number + 1
-        self.file(number, "import").write_text(lemmas)
-        self.write("given", number=number, cube=name)
+        write(self.file(number, "import"), lemmas.encode())
+        self.write("given", number=number, cube=name, starts=starts, sha256={"import": digest(lemmas.encode())})
         return number
+
+    def give_again(self, number: int) -> str:
+        """The lemmas that the search got."""
+        self.write("given", number=number, cube=self.damaged[number], starts=self.begun.get(number))
+        return self.file(number, "import").read_text()
 
     def keep_first(self, log: bytes, **row: object) -> None:
         """A search of the project before there are cubes, which got no lemmas and leaves none."""
-        number = self.number + 1
-        write_whole(str(self.file(number, "log")), log)
-        for kind in ("import", "lemmas"):
-            self.file(number, kind).write_text("")
-        self.write("first", number=number, **row)
+        number, files = self.number + 1, {"log": log, "import": b"", "lemmas": b""}
+        for kind, data in files.items():
+            write(self.file(number, kind), data)
+        self.write("first", number=number, sha256={kind: digest(data) for kind, data in files.items()}, **row)
 
     def keep(self, number: int, row: Row) -> None:
         """The search has ended: its files first, and then its row."""
         for kind in MADE:
-            found = row["files"][kind]
-            if isinstance(found, bytes):
-                write_whole(str(self.file(number, kind)), zlib.decompress(found))
+            sha256, data = row["files"][kind]["sha256"], row["files"][kind]["data"]
+            if data is None:
+                folders.take(self.folder / INCOMING / f"{sha256}.{kind}", self.file(number, kind))
             else:
-                os.replace(self.folder / "incoming" / f"{found}.{kind}", self.file(number, kind))
+                write(self.file(number, kind), data)
         told = {key: row[key] for key in (*TOLD, "seconds") if key != "cube"}
-        self.write("ended", number=number, state=row["cube"], **told)
+        digests = {kind: row["files"][kind]["sha256"] for kind in MADE}
+        self.write("ended", number=number, state=row["cube"], **told, sha256=digests)
 
     def put_aside(self, name: str) -> list[pathlib.Path]:
         """The logs of the cube, which stay as files, and are no part of the tree any more."""
@@ -218,37 +277,25 @@ class Driven(Tree):
         self.rows.close()
 
 
-def locked(folder: pathlib.Path) -> IO[bytes]:
-    """The rows, to which this process alone writes. A last one that was cut off goes."""
-    file = open(folder / ROWS, "a+b")
-    try:
-        fcntl.flock(file, fcntl.LOCK_EX | fcntl.LOCK_NB)
-    except OSError:
-        file.close()
-        raise BadInput(f"{folder} has a driver already") from None
-    file.seek(0)
-    file.truncate(file.read().rfind(b"\n") + 1)
-    return file
-
-
-def is_driven(folder: pathlib.Path) -> bool:
-    """Whether a driver holds the lock."""
-    with open(folder / ROWS, "rb") as file:
-        try:
-            fcntl.flock(file, fcntl.LOCK_SH | fcntl.LOCK_NB)
-        except OSError:
-            return True
-    return False
+def with_sum(row: str) -> str:
+    """A row with its checksum."""
+    return f'{row[:-1]}{SUM}{zlib.crc32(row.encode()):08x}"}}'
 
 
 def read_rows(path: pathlib.Path) -> Iterator[Row]:
     """The rows that are whole."""
-    if not path.exists():
-        raise BadInput(f"{path.parent} is no folder of cubes")
-    with open(path, "rb") as file:
-        for line in file:
+    with folders.opened(path) as file:
+        for number, line in enumerate(file, 1):
             if line.endswith(b"\n"):
-                yield json.loads(line)
+                yield read_row(path, number, line.decode("utf-8", "replace").removesuffix("\n"))
+
+
+def read_row(path: pathlib.Path, number: int, line: str) -> Row:
+    text = line.rpartition(SUM)[0] + "}"
+    if with_sum(text) != line:
+        raise BadInput(f"{path}: line {number} is damaged; without it and the lines below, plan goes on from there")
+    row: Row = json.loads(text)
+    return row
 
 
 def part(name: str) -> float:

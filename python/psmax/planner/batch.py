@@ -13,9 +13,9 @@ from dataclasses import dataclass
 from types import TracebackType
 from typing import Self
 
+from ..call_files import lose_none
 from ..clock import Clock, tell
 from ..errors import BadInput, Failed
-from ..files import guard
 from ..letters import escaped, printable
 from ..process import ENDING, GLANCE, RECORD
 from .batch_table import FAULT, HEADS, Row, Rows, contradictions, keep, read_published, read_rows
@@ -81,11 +81,14 @@ class Task:
 
 def batch(wanted: Batch) -> int:
     tasks = chosen(wanted)
-    guard([wanted.csv], {f"the project {task.row}": str(task.path) for task in tasks})
+    reads = {f"the project {task.row}": str(task.path) for task in tasks}
+    reads |= {} if wanted.known is None else {"the table of bounds": wanted.known}
+    lose_none(reads, [wanted.csv])
     for folder in filter(None, (wanted.out, wanted.record)):
         if os.path.exists(folder) and not os.path.isdir(folder):
             raise Failed(f"cannot write into {folder}: it is no folder")
         os.makedirs(folder, exist_ok=True)
+    lose_none(reads, [wanted.csv, *(path for task in tasks for _, path in outputs(task, wanted))])
     published = {} if wanted.known is None else read_published(wanted.known)
     done = read_rows(wanted.csv) if wanted.csv is not None and os.path.exists(wanted.csv) else {}
     left = [task for task in tasks if done.get(task.row, {}).get("status", FAULT) == FAULT]
@@ -148,11 +151,15 @@ def run(wanted: Batch, left: Sequence[Task], clock: Clock) -> Rows:
     return found
 
 
+def outputs(task: Task, wanted: Batch) -> list[tuple[str, str]]:
+    """The files that a search writes, each behind its option."""
+    folders = ("--out", wanted.out, ".starts"), ("--record", wanted.record, ".rec")
+    return [(option, os.path.join(folder, task.stem + suffix)) for option, folder, suffix in folders if folder is not None]
+
+
 def row_of(task: Task, wanted: Batch, clock: Clock) -> Row | None:
     """What one search knows at its end; none where the batch was ended before."""
-    outputs = {"--out": (wanted.out, ".starts"), "--record": (wanted.record, ".rec")}
-    named = [word for option, (folder, suffix) in outputs.items() if folder is not None
-             for word in (option, os.path.join(folder, task.stem + suffix))]
+    named = [word for output in outputs(task, wanted) for word in output]
     words = [sys.executable, "-m", "psmax.planner", "solve", str(task.path), "--json", "--jobs", "1", "--seconds",
              f"{wanted.seconds:g}", *named]
     home = {"PYTHONPATH": str(pathlib.Path(__file__).resolve().parents[2])}

@@ -5,8 +5,9 @@ import re
 from collections.abc import Sequence
 from dataclasses import dataclass
 
+from ..call_files import lose_none
 from ..errors import BadInput
-from ..files import guard, read_text, write_whole
+from ..files import read_text, write_whole
 from ..letters import short
 from .csv_text import cell, read_sheet, write_sheet
 from .write import put
@@ -45,7 +46,7 @@ def read_rows(path: str) -> Rows:
 
 def join(paths: Sequence[str], csv: str | None) -> int:
     """One table of several. A project that stands in two of them must have the same row in both, or a fault in one."""
-    guard([csv], {f"the table {path}": path for path in paths})
+    lose_none({f"the table {path}": path for path in paths}, [csv])
     joined: Rows = {}
     for path in paths:
         for project, row in read_rows(path).items():

@@ -1,12 +1,16 @@
 """`plan solve --out FOLDER/`: one project in cubes, on the processors of this machine or of a cluster, and the answer of what
 `psprove verify` accepts."""
+import os
 import pathlib
 from collections import Counter
+from collections.abc import Mapping
 from contextlib import closing
 from dataclasses import dataclass
 
+from ..call_files import lose_none, same_file
 from ..clock import Clock, tell
 from ..cubes.driver import TRIES, Driver
+from ..cubes.folder import PROJECT, must_be_ours
 from ..cubes.machines import Cluster, Machines, Processes
 from ..cubes.tree import WHOLE, Driven
 from ..errors import BadInput, Failed, TimeUp
@@ -17,7 +21,7 @@ from ..project_text import ProjectText
 from ..psprove import Psprove
 from ..record import PROVED
 from .beginning import Beginning
-from .join import joined, place_of
+from .join import joined, outside, place_of
 
 
 @dataclass(frozen=True)
@@ -28,6 +32,12 @@ class Places:
     cluster: str | None  # the address of a scheduler
     jobs: int  # of this machine, where there is no cluster
     record: str | None
+
+    def must_lose_none(self, reads: Mapping[str, str], writes: list[str | None]) -> None:
+        """A fault where the folder would replace a file, or one of these a file of the folder. Its own project stays."""
+        must_be_ours(pathlib.Path(self.folder))
+        others = {what: path for what, path in reads.items() if not same_file(path, os.path.join(self.folder, PROJECT))}
+        lose_none(others, [*writes, outside(self.folder, self.record)], self.folder)
 
     def machines(self) -> Machines:
         return Cluster(self.cluster) if self.cluster else Processes(self.jobs, find_program(Psprove.name))
@@ -40,10 +50,12 @@ def search(beginning: Beginning, known: Incumbent, places: Places) -> None:
     spelled, record = ProjectText(beginning.project), place_of(places.folder, places.record)
     with closing(Driven(pathlib.Path(places.folder), spelled.text)) as tree:
         driver, wrong = Driver(tree, known, spelled), Counter[str]()
+        for line in tree.look():
+            tell(known.clock, line)
         while True:
-            if tree.waiting:
+            if tree.is_open():
                 driver.refute(places.machines())
-            bad = learn(tree, record, known, spelled) if tree.logs else {}
+            bad = learn(tree, record, known, spelled) if any(tree.whole()) else {}
             for name, fault in bad.items():
                 for path in tree.put_aside(name):
                     tell(known.clock, f"cube {name or WHOLE}: {fault}: {path} is put aside")

@@ -3,9 +3,10 @@ the latest in any schedule that is no longer."""
 import os
 from dataclasses import dataclass
 
+from ..call_files import lose_none, must_be_empty
 from ..clock import Clock
 from ..errors import BadInput
-from ..files import STANDARD_INPUT, guard, must_be_empty
+from ..files import STANDARD_INPUT
 from ..psmax import Psmax
 from ..psprove import Psprove
 from ..total import TotalFloat
@@ -77,10 +78,11 @@ def cells(opened: ProjectFile, starts: tuple[int, ...], activity: int, window: W
 def floats(opened: ProjectFile, given: str | None, sheet: Sheet, chart: Chart, wanted: Total | None) -> int:
     start = wanted.start if wanted is not None else Start(None, None)
     inputs = opened.inputs() | start.inputs() | {"the answer": given or STANDARD_INPUT}
-    guard([sheet.out if wanted is None else None, chart.svg], inputs)
+    folder = None if wanted is None else sheet.out
+    lose_none(inputs, [sheet.out if wanted is None else None, chart.svg], folder)
     chart.must_fit()
-    must_be_empty(sheet.out if wanted is not None else None)
-    must_be_ordinary(opened, sheet.out if wanted is not None else None)
+    must_be_empty(folder)
+    must_be_ordinary(opened, folder)
     psmax = Psmax(Clock(), opened.path)
     known = feasible(opened, read_answer(given), psmax)
     found = windows(opened.project, known.starts, psmax)

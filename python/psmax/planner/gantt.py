@@ -1,8 +1,9 @@
 """`plan gantt`: a schedule as a chart, in plain text or as SVG."""
 from dataclasses import dataclass
 
+from ..call_files import lose_none, must_be_like
 from ..clock import Clock
-from ..files import STANDARD_INPUT, guard, must_be_like, write_whole
+from ..files import STANDARD_INPUT, write_whole
 from ..psmax import Psmax
 from . import drawing, svg
 from .answer import judged
@@ -143,7 +144,7 @@ class Chart:
 
 def gantt(opened: ProjectFile, given: str | None, chart: Chart) -> int:
     """Draws starts that are no feasible schedule too, with their violations."""
-    guard([chart.svg], opened.inputs() | {"the answer": given or STANDARD_INPUT})
+    lose_none(opened.inputs() | {"the answer": given or STANDARD_INPUT}, [chart.svg])
     chart.must_fit()
     answer = read_answer(given)
     if answer.instead:

@@ -3,18 +3,20 @@ import math
 import os
 import pathlib
 import re
+import secrets
 import sys
 from dataclasses import dataclass
 
+from ..call_files import lose_none, must_be_like
 from ..clock import Clock
+from ..cubes.folder import PROJECT, files_of, must_be_whole, write
 from ..cubes.tree import WHOLE, Tree
 from ..errors import BadInput, Failed
-from ..files import guard, must_be_like, write_whole
+from ..files import rename_whole
 from ..letters import printable
 from ..psmax import starts_text
 from ..psprove import Psprove
-from ..record import PROVED, WRONG
-from .verify import RECORD
+from ..record import BEGIN, PROVED, WRONG
 
 BAD = re.compile(r"psprove: cube (-|[01]+): (.*)")  # a log that is left out, at least in part
 OPEN = "its log does not refute it"  # which is no fault of a cube that was split
@@ -29,18 +31,24 @@ class Joined:
 
 
 def joined(tree: Tree, record: str, clock: Clock) -> Joined:
-    """Writes the record, and has it judged. What it proves stands in the folder from then on."""
+    """Makes the record, and has it judged; then it takes its name. What it proves stands in the folder from then on."""
     psprove, told = Psprove(clock, f"{tree.folder}"), list[str]()
-    project, start = ["--project", f"{tree.folder / 'project.sch'}"], list[str]()
+    project, start = ["--project", f"{tree.folder / PROJECT}"], list[str]()
     if tree.starts is not None:
-        write_whole(f"{tree.folder / 'start'}", starts_text(tree.starts))
+        write(tree.folder / "start", starts_text(tree.starts))
         start = ["--start", f"{tree.folder / 'start'}"]
-    psprove.call(["join", *project, *start, "--tree", f"{tree.write_list()}", "--record", record], b"", math.inf, told.append)
-    status, out = psprove.call(["verify", *project], pathlib.Path(record), math.inf)
-    says = out.decode("utf-8", "replace").strip()
-    if status != 0 or not PROVED.fullmatch(says):
-        raise Failed(f"{record}, by psprove join, proves nothing: {says}")
-    write_whole(f"{tree.folder / 'proved'}", f"{says}\n".encode())
+    made = os.path.join(os.path.dirname(os.path.realpath(record)), f".plan-{secrets.token_hex(8)}")
+    try:
+        psprove.call(["join", *project, *start, "--tree", f"{tree.write_list()}", "--record", made], b"", math.inf, told.append)
+        status, out = psprove.call(["verify", *project], pathlib.Path(made), math.inf)
+        says = out.decode("utf-8", "replace").strip()
+        if status != 0 or not PROVED.fullmatch(says):
+            raise Failed(f"{record}, by psprove join, proves nothing: {says}")
+        rename_whole(made, record)
+    finally:
+        for left in (made, f"{made}.part"):
+            pathlib.Path(left).unlink(missing_ok=True)
+    write(tree.folder / "proved", f"{says}\n".encode())
     found = {match[1].strip("-"): match[2] for match in map(BAD.fullmatch, told) if match is not None}
     return Joined(says, {name: fault for name, fault in found.items() if fault != OPEN or name in tree.refuted})
 
@@ -48,19 +56,27 @@ def joined(tree: Tree, record: str, clock: Clock) -> Joined:
 def place_of(folder: str, record: str | None) -> str:
     """Where the record goes: into the folder, where nothing else is said."""
     place = record or os.path.join(folder, "record")
-    must_be_like(place, RECORD, "record")
+    must_be_like(place, BEGIN, "record")
     return place
 
 
+def outside(folder: str, record: str | None) -> str | None:
+    """The record's file, where it is another one than that of the folder."""
+    is_own = record is None or os.path.realpath(record) == os.path.realpath(os.path.join(folder, "record"))
+    return None if is_own else record
+
+
 def join(folder: str, record: str | None) -> int:
-    guard([record], {})
+    must_be_whole(pathlib.Path(folder))
+    lose_none({f"the file {path} of cubes": path for path in files_of(pathlib.Path(folder))}, [outside(folder, record)])
+    lose_none({}, [outside(folder, record)], folder)
     tree, place = Tree(pathlib.Path(folder)), place_of(folder, record)
     if not tree.logs:
         raise BadInput(f"{folder}: no cube has ended yet, so there is nothing to join")
     clock = Clock()
     clock.listen()
     found = joined(tree, place, clock)
-    print(f"{place}: {found.says}, of {tree.folder / 'project.sch'}")
+    print(f"{place}: {found.says}, of {tree.folder / PROJECT}")
     for name, fault in found.bad.items():
         print(f"plan: cube {name or WHOLE}: {printable(fault)}; it is left out", file=sys.stderr)
     return WRONG if found.bad else 0

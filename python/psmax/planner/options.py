@@ -2,13 +2,14 @@
 import argparse
 import math
 import os
+import pathlib
 import re
 from collections.abc import Callable, Sequence
 from dataclasses import fields
 from functools import partial
 from typing import NoReturn
 
-from ..cubes.tree import ROWS
+from ..cubes.folder import PROJECT, is_marked, must_be_whole
 from ..dates import ORDERS
 from ..errors import BadInput
 from ..formats import FORMATS
@@ -108,7 +109,7 @@ def run_solve(options: argparse.Namespace) -> int:
     out, seconds, places = options.out, options.seconds, None
     if options.cluster is not None and out is None:
         raise BadInput("--cluster needs --out, a folder for the cubes")
-    if options.cluster is not None or out is not None and (out.endswith("/") or os.path.isfile(os.path.join(out, ROWS))):
+    if options.cluster is not None or out is not None and (out.endswith("/") or is_marked(out)):
         places, out = cubes.Places(out, options.cluster, options.jobs, options.record), None
     if seconds is None:
         seconds = SECONDS if places is None else math.inf
@@ -177,9 +178,10 @@ def add_verify(one: argparse.ArgumentParser) -> None:
 
 def run_verify(options: argparse.Namespace) -> int:
     record = options.project if options.record is None else options.record
-    if os.path.isfile(os.path.join(record, ROWS)):
+    if is_marked(record):
+        must_be_whole(pathlib.Path(record))
         if options.record is None:
-            options.project = os.path.join(record, "project.sch")
+            options.project = os.path.join(record, PROJECT)
         record = os.path.join(record, "record")
     elif options.record is None:
         raise BadInput(f"{record} is no folder of cubes; name a record behind the project")

@@ -6,9 +6,10 @@ import sys
 
 from .. import formats
 from ..api import Project
+from ..call_files import lose_none
 from ..clock import Clock
 from ..errors import BadInput
-from ..files import DASH, decoded, guard, read_bytes, read_text, write_whole
+from ..files import DASH, decoded, read_bytes, read_text, write_whole
 from ..letters import printable
 from ..project import Goal, too_needy
 from ..project_text import ProjectText
@@ -45,7 +46,7 @@ def read(path: str, out: str | None, wanted: str | None, words: Settings) -> int
 
 def convert(path: str, out: str | None, wanted: str) -> int:
     """The project in a text of another format; to standard output if no file is named."""
-    guard([out], {"the project": path})
+    lose_none({"the project": path}, [out])
     project = Project()
     formats.read(read_bytes(path), project, path)
     try:
@@ -74,14 +75,14 @@ def read_activities(path: str, out: str | None, words: Settings) -> int:
     if os.path.basename(target) in ("", ".", "..") or target.endswith(".md"):
         raise BadInput(f"the project can't be written to '{target}'; name a .sch file with --out")
     named = page_of(target)
-    guard([target, named], {"the table": path} | words.files())
     source = printable(os.path.relpath(path, os.path.dirname(named) or "."))
     there = read_bytes(named) if os.path.exists(named) else None
     must_be_ours(target, named, source, there, out is not None)
     told = Settings() if there is None else from_rows(read_page(there).settings, os.path.dirname(named))
     words = words.over(told)
     found = read_table(path, text, words, os.path.dirname(path))
-    opened = of_table(path, found, {}, text)
+    opened = of_table(path, found, {"the table": path}, text)
+    lose_none(opened.inputs(), [target, named])
     spelled = ProjectText(opened.project)
     names = found.names
     names.source, names.digest = source, hashlib.sha256(read_bytes(path)).hexdigest()
@@ -146,7 +147,7 @@ def what_is_clear(least: int | None, opened: ProjectFile) -> str:
 
 def read_sch(path: str, out: str | None) -> int:
     """The file without byte order mark and Ctrl-Z, once psmax has read it so; to standard output if none is named."""
-    guard([out], {"the project": path})
+    lose_none({"the project": path}, [out])
     if out is not None:
         must_be_project(out)
     data = read_bytes(path)

@@ -4,9 +4,10 @@ import hashlib
 import pathlib
 from dataclasses import dataclass
 
+from ..call_files import lose_none, must_be_like
 from ..clock import Clock
 from ..errors import BadInput
-from ..files import STANDARD_INPUT, guard, must_be_like, write_whole
+from ..files import STANDARD_INPUT, write_whole
 from ..psmax import Psmax
 from ..psprove import Psprove
 from .answer import Answer, feasible
@@ -58,7 +59,7 @@ def headline_of(answer: Answer, found: Verdict | None, opened: ProjectFile) -> t
 
 def report(opened: ProjectFile, given: str | None, start: Start, options: Options) -> int:
     inputs = {"the answer": given or STANDARD_INPUT} | ({} if options.record is None else {"the record": options.record})
-    guard([options.out], opened.inputs() | start.inputs() | inputs)
+    lose_none(opened.inputs() | start.inputs() | inputs, [options.out])
     must_be_like(options.out, BEGIN, "page of HTML")
     psmax = Psmax(Clock(), opened.path)
     answer = feasible(opened, read_answer(given), psmax)

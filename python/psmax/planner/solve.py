@@ -7,13 +7,15 @@ from dataclasses import dataclass
 from functools import partial
 
 from .. import __version__
+from ..call_files import lose_none, must_be_like
 from ..clock import Clock, tell
 from ..errors import Failed
-from ..files import guard, must_be_like, write_whole
+from ..files import write_whole
 from ..incumbent import Incumbent
 from ..project import Goal
 from ..psmax import Psmax
 from ..psprove import Psprove
+from ..record import BEGIN
 from ..search import search
 from . import cubes, drawing, svg
 from .answer_file import AnswerFile, activities_of
@@ -21,7 +23,6 @@ from .beginning import Start, begin_with, go_on
 from .headline import called, headline
 from .project_file import ProjectFile
 from .read_back import first_line
-from .verify import RECORD
 
 
 @dataclass(frozen=True)
@@ -38,8 +39,12 @@ class Options:
 
 
 def solve(opened: ProjectFile, start: Start, options: Options) -> int:
-    guard([options.out, options.svg, options.record], opened.inputs() | start.inputs())
-    must_be_like(options.record, RECORD, "record")
+    reads = opened.inputs() | start.inputs()
+    if options.places is None:
+        lose_none(reads, [options.out, options.svg, options.record])
+    else:
+        options.places.must_lose_none(reads, [options.svg])
+    must_be_like(options.record, BEGIN, "record")
     must_be_like(options.svg, svg.BEGIN, "picture")
     kept = None if options.out is None else AnswerFile(options.out, opened)
     there = kept.look() if kept is not None else None

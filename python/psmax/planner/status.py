@@ -2,7 +2,8 @@
 import pathlib
 from collections.abc import Sequence
 
-from ..cubes.tree import Tree, is_driven
+from ..cubes.folder import is_driven, must_be_whole
+from ..cubes.tree import Tree
 from ..record import PROVED
 
 # A time is told where the same rule, used at these parts of the seconds so far, has said how much is refuted now, this nearly.
@@ -11,6 +12,7 @@ UNITS = (("d", 86_400), ("h", 3_600), ("min", 60), ("s", 1))
 
 
 def status(folder: str) -> int:
+    must_be_whole(pathlib.Path(folder))
     tree = Tree(pathlib.Path(folder))
     if not is_driven(tree.folder):
         tree.abandon_all()

@@ -16,7 +16,6 @@ from ..record import OF_PSMAX, WRONG, Record, record_in
 from .beginning import Start, begin_with
 from .project_file import ProjectFile
 
-RECORD = b"record "  # how one begins
 STEP, STEP_IN_WORDS = re.compile(r"\bevent (\d+): (\w+)"), r"its step \1 is wrong (\2)"  # as psprove says it, and here
 
 

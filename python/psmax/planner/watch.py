@@ -13,10 +13,12 @@ from concurrent.futures import Future
 from contextlib import contextmanager, suppress
 from dataclasses import dataclass
 
+from ..call_files import lose_none, must_be_like
 from ..clock import Clock
 from ..errors import BadInput, Failed, Fault
-from ..files import DASH, Saves, guard, must_be_like, read_bytes, read_text
+from ..files import DASH, Saves, read_bytes, read_text
 from ..project_text import ProjectText
+from ..record import BEGIN
 from .above import read_above
 from .answer import tie
 from .answer_text import AnswerText, read_answer
@@ -31,7 +33,6 @@ from .project_file import ProjectFile, open_project
 from .screen import Screen
 from .server import Server
 from .settings import Settings
-from .verify import RECORD
 
 GLANCE = 0.1  # seconds from one look at the files to the next
 ANSWERS = 120.0  # seconds that an order may take
@@ -75,6 +76,7 @@ class Watch:
             if opened.table is None:
                 raise BadInput(f"{self.path}: this is no table of activities")
             self.sources = {*opened.inputs().values()}
+            lose_none(opened.inputs(), [self.options.record])
             schedule = self.screen.schedule()
             given = self.first if schedule is None else schedule.given()
             beginning = self.begin(opened, given)
@@ -189,8 +191,8 @@ def watch(path: str, settings: Settings, start: Start, options: Options) -> int:
         raise BadInput("plan watch follows a file, and not standard input")
     if start.frozen is not None and start.answer is None:
         raise BadInput("--frozen needs --start, the schedule of which a part has started")
-    guard([options.record], {"the table": path} | settings.files() | start.inputs())
-    must_be_like(options.record, RECORD, "record")
+    lose_none({"the table": path} | settings.files() | start.inputs(), [options.record])
+    must_be_like(options.record, BEGIN, "record")
     read_bytes(path)
     with alone(path), tempfile.TemporaryDirectory(prefix="plan-") as folder:
         watching = Watch(path, settings, start, options, folder)

@@ -1,7 +1,7 @@
 """`plan whatif`: what one unit more of a resource, one absence less, or a maximum lag loosened or dropped gives, proved by
 psprove."""
+from ..call_files import lose_none
 from ..clock import Clock
-from ..files import guard
 from ..incumbent import Incumbent
 from ..project import Goal
 from ..psprove import Psprove
@@ -34,7 +34,7 @@ def change_text(change: Change, words: Words) -> str:
 
 
 def whatif(opened: ProjectFile, seconds: float, jobs: int, sheet: Sheet) -> int:
-    guard([sheet.out], opened.inputs())
+    lose_none(opened.inputs(), [sheet.out])
     sheet.must_have(HEADS)
     clock = Clock(seconds)
     clock.listen()

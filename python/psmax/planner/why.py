@@ -3,9 +3,10 @@ import os
 from collections.abc import Callable
 from dataclasses import dataclass, field, replace
 
+from ..call_files import lose_none, must_be_empty
 from ..clock import Clock, tell
 from ..errors import BadInput, TimeUp
-from ..files import must_be_empty, write_whole
+from ..files import write_whole
 from ..outcome import Solved
 from ..project import MOST_UNITS, Arc, Goal, Kind, Part, Project, parts, too_needy, with_lag, within, without
 from ..project_text import ProjectText
@@ -182,6 +183,7 @@ class Causes:
 
 
 def why(opened: ProjectFile, start: Start, deadline: int | None, seconds: float, jobs: int, out: str | None) -> int:
+    lose_none(opened.inputs() | start.inputs(), [], out)
     must_be_empty(out)
     must_be_ordinary(opened, out)
     project = begin_with(opened, start).project

@@ -8,9 +8,10 @@ from dataclasses import dataclass
 
 from ..answer import Schedule
 from ..api import Project
+from ..call_files import lose_none, must_be_like
 from ..clock import Clock
 from ..errors import BadInput
-from ..files import STANDARD_INPUT, guard, must_be_like, read_bytes, write_whole
+from ..files import STANDARD_INPUT, read_bytes, write_whole
 from ..formats import mspdi, mspdi_text
 from ..psmax import Psmax
 from . import icalendar
@@ -92,7 +93,7 @@ def put(text: str, out: str | None) -> None:
 
 def write(opened: ProjectFile, given: str | None, sheet: Sheet, resource: str | None = None) -> int:
     """As a table, or as what the suffix of the file says."""
-    guard([sheet.out], opened.inputs() | {"the answer": given or STANDARD_INPUT})
+    lose_none(opened.inputs() | {"the answer": given or STANDARD_INPUT}, [sheet.out])
     suffix = pathlib.PurePath(sheet.out or "").suffix.lower()
     if resource is not None and suffix != icalendar.SUFFIX:
         raise BadInput(f"--resource is for a calendar, which --out names with {icalendar.SUFFIX}")
