@@ -4,9 +4,12 @@ import os
 import pathlib
 import re
 import signal
+import stat
 import subprocess
+import time
 from unittest import mock
 from urllib.parse import urlsplit
+from urllib.request import url2pathname
 
 from .helpers import EXAMPLES, INPUTS, LONG, TELLS, InFolder, plan
 from .watching import Watching, done
@@ -209,11 +212,44 @@ class Safe(Watches):
                     self.assertEqual(watch.ask("GET", path, **heads)[0], 403)
                 self.assertEqual(watch.ask("POST", f"{place.path}keep", "0", **heads)[0], 403)
         self.assertEqual(watch.ask("POST", f"{place.path}keep", "0", Origin="")[0], 403)
-        for body in ("", "x", "[1]", "1" * 2000, "{}"):
-            self.assertIn(watch.ask("POST", f"{place.path}back", body)[0], (403, 409))
+        for body in ("", "x", "[1]", "1" * 99, "1" * 2000, "{}", "1e999", "-1", "NaN", "[" * 999, "1" + " " * 5000):
+            with self.subTest(body=body[:9]):
+                self.assertEqual(watch.ask("POST", f"{place.path}back", body), (403, b"refused"))
+        self.assertEqual(watch.ask("POST", f"{place.path}back", "7", **{"Transfer-Encoding": "chunked"})[0], 403)
+        for zoom in ("nan", "-nan", "x", "", "1" * 9999, "[" * 999):
+            self.assertIn(watch.ask("GET", f"{place.path}state?after=0&zoom={zoom}")[0], (200, 403), zoom)
+        self.assertEqual(watch.ask("GET", f"{place.path}state?zoom=nan")[0], 403)
         self.assertEqual(watch.ask("GET", place.path)[0], 200)
         self.assertEqual(self.names(), ["p.csv"])
         self.assertEqual(watch.end()[2], "")
+
+    def test_a_browser(self) -> None:
+        """Its arguments have no token, since every user may read them. They name a page that leads to the address, which the
+        user alone may read. A browser that goes on in the foreground holds up nothing."""
+        told, begun = self.folder / "told", self.folder / "begun"
+        browser = self.program("browser", f'echo "$@" > {told}; mv {told} {begun}; exec sleep 5')
+        with mock.patch.dict(os.environ, {"BROWSER": browser}):
+            watch = self.watching(TWO, "--open")
+        watch.until(done("optimal 7"))
+        while not begun.exists():
+            time.sleep(0.01)
+        token = urlsplit(watch.address).path.strip("/")
+        self.assertNotIn(token, begun.read_text())
+        page = pathlib.Path(url2pathname(urlsplit(begun.read_text().strip()).path))
+        self.assertEqual((stat.S_IMODE(page.stat().st_mode), stat.S_IMODE(page.parent.stat().st_mode)), (0o600, 0o700))
+        self.assertIn(f'content="0; url={watch.address}"', page.read_text())
+        self.assertEqual(watch.end()[::2], (0, ""))
+        self.assertFalse(page.exists())
+
+    def test_a_name_that_no_file_has(self) -> None:
+        """It is a fault of the table, and the next save is planned."""
+        watch = self.watching(TWO)
+        watch.until(done("optimal 7"))
+        for name in ("holidays", "absences"):
+            state = watch.saved(f"{name},\0x\n{TWO}", lambda state: state["faults"])
+            self.assertIn("?x: there is no such file", state["faults"][0])
+            watch.saved(TWO, lambda state: not state["faults"])
+        watch.saved(TWO.replace("a,3", "a,5"), done("optimal 9"))
 
     def test_where_it_listens(self) -> None:
         """On 127.0.0.1 alone."""

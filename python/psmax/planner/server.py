@@ -2,6 +2,7 @@
 another host, or comes from another page, gets nothing."""
 import hmac
 import json
+import math
 import re
 import secrets
 import sys
@@ -20,7 +21,7 @@ from .plans import Plan
 from .screen import Screen
 
 HOST = "127.0.0.1"
-LONGEST = 1_000  # bytes of a request's body
+NUMBER = re.compile(rb"\s*([0-9]{1,9})\s*")  # the body of an order
 PATIENCE = 20.0  # seconds that a browser waits for a change
 ZOOMS = (0.25, 16.0)
 HEADS = {
@@ -84,9 +85,10 @@ class Server(ThreadingHTTPServer):
         TCPServer.server_bind(self)
 
     def handle_error(self, request: object, client_address: object) -> None:
-        """A browser that goes away is no fault."""
-        if not isinstance(sys.exception(), OSError):
-            super().handle_error(request, client_address)  # type: ignore[arg-type]
+        """A browser that goes away is no fault; any other one is a line."""
+        fault = sys.exception()
+        if fault is not None and not isinstance(fault, OSError):
+            print(f"plan: a request failed: {'; '.join(explained(fault)[1])}", file=sys.stderr)
 
 
 class Handler(BaseHTTPRequestHandler):
@@ -104,17 +106,22 @@ class Handler(BaseHTTPRequestHandler):
 
     def do_POST(self) -> None:
         name, _ = self.asked()
-        length = self.headers.get("Content-Length", "")
-        if name not in ("keep", "stop", "back") or "Origin" not in self.headers or not re.fullmatch("[0-9]{1,4}", length):
+        if name not in ("keep", "stop", "back") or "Origin" not in self.headers:
             return self.refuse()
-        told = self.rfile.read(min(int(length), LONGEST))
+        number = NUMBER.fullmatch(self.body())
+        if number is None:
+            return self.refuse()
         try:
-            number = int(json.loads(told or b"0"))
-            self.reply(200, self.server.order(name, number).encode())
-        except (ValueError, TypeError):
-            self.refuse()
+            self.reply(200, self.server.order(name, int(number[1])).encode())
         except (BadInput, Failed) as fault:
             self.reply(409, f"{fault}".encode())
+
+    def body(self) -> bytes:
+        """All of it; empty where it is too long, or doesn't say first how long it is."""
+        length = self.headers.get_all("Content-Length") or []
+        if len(length) != 1 or not re.fullmatch("[0-9]{1,3}", length[0]) or "Transfer-Encoding" in self.headers:
+            return b""
+        return self.rfile.read(int(length[0]))
 
     def asked(self) -> tuple[str | None, dict[str, str]]:
         """The name behind the token, and the words behind that; none for who may not ask."""
@@ -131,6 +138,8 @@ class Handler(BaseHTTPRequestHandler):
         try:
             after, zoom = int(words.get("after", "0")), float(words.get("zoom", "1"))
         except ValueError:
+            return self.refuse()
+        if math.isnan(zoom):
             return self.refuse()
         if not self.server.screen.wait(after, PATIENCE):
             return self.reply(204, b"")

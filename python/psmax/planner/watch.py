@@ -36,6 +36,8 @@ from .settings import Settings
 
 GLANCE = 0.1  # seconds from one look at the files to the next
 ANSWERS = 120.0  # seconds that an order may take
+FORWARD = ('<!doctype html><meta charset="utf-8"><title>plan watch</title><meta name="referrer" content="no-referrer">'
+           '<meta http-equiv="refresh" content="0; url={0}"><a href="{0}">plan watch</a>\n')
 MOVED = '<details id="moved" open hidden><summary></summary><div></div></details>'  # where the page says what moved
 
 
@@ -210,7 +212,7 @@ def serve(watching: Watch) -> None:
     thread.start()
     print(server.address, flush=True)
     if watching.options.is_opened:
-        webbrowser.open(server.address)
+        show(forward(watching.folder, server.address))
     try:
         watching.run()
         for line in watching.close():
@@ -220,6 +222,24 @@ def serve(watching: Watch) -> None:
         watching.screen.close()
         server.shutdown()
         server.server_close()
+
+
+def forward(folder: str, address: str) -> str:
+    """A page that nobody else can read, and that leads a browser to the address. So the token stands in no argument, which all
+    users of a machine see."""
+    path = os.path.join(folder, "open.html")
+    with open(os.open(path, os.O_WRONLY | os.O_CREAT | os.O_EXCL, 0o600), "w") as file:
+        file.write(FORWARD.format(address))
+    return pathlib.Path(path).as_uri()
+
+
+def show(address: str) -> None:
+    """Opens a browser. One that runs in the foreground holds up nothing."""
+    def run() -> None:
+        with suppress(webbrowser.Error, OSError):
+            webbrowser.open(address)
+
+    threading.Thread(target=run, daemon=True).start()
 
 
 def page(path: str) -> bytes:
