@@ -1,14 +1,24 @@
 """The process of a program that runs: its lines as they come, and how it is ended."""
 import os
+import shutil
 import subprocess
 import time
-from collections.abc import Iterator
+from collections.abc import Iterator, Sequence
 from dataclasses import dataclass
 from typing import IO
 
 GLANCE = 0.05  # seconds between two looks at the clock, and at what is told, while a program runs
 ENDING = 5.0  # seconds that a program has to answer in, once it is asked to end
 RECORD = 60.0  # seconds that it has for its record, which may be long, once it has answered
+
+
+def tied(words: Sequence[str]) -> list[str]:
+    """The words of a program that is killed when the thread ends that starts it, whatever ends that: `setpriv` of util-linux
+    asks the system for it. The shell sees to it that this was in time, since its parent is still this process."""
+    setpriv = shutil.which("setpriv")
+    if setpriv is None:
+        return [*words]
+    return [setpriv, "--pdeathsig", "KILL", "--", "/bin/sh", "-c", 'test "$PPID" = "$0" && exec "$@"', f"{os.getpid()}", *words]
 
 
 class Lines:

@@ -13,7 +13,7 @@ from typing import IO
 
 from .clock import Clock
 from .errors import BadInput, Failed, TimeUp
-from .process import Lines, Process
+from .process import Lines, Process, tied
 
 SECONDS = 600.0  # the most that a program may take for an answer that no search is needed for
 INSIDE = "bin"  # the folder of the programs in the package, where it was installed from a wheel
@@ -100,7 +100,7 @@ class Program:
             raise TimeUp
         with given_file(given) as source, tempfile.TemporaryFile() as out, tempfile.TemporaryFile() as told:
             try:
-                child = subprocess.Popen([self.path, *arguments], stdin=source, stdout=out, stderr=told,
+                child = subprocess.Popen(tied([self.path, *arguments]), stdin=source, stdout=out, stderr=told,
                                          start_new_session=True)
             except OSError as fault:
                 raise Failed(f"cannot start {self.path}: {fault.strerror}") from None

@@ -17,7 +17,7 @@ from ..call_files import lose_none
 from ..clock import Clock, tell
 from ..errors import BadInput, Failed
 from ..letters import escaped, printable
-from ..process import ENDING, GLANCE, RECORD
+from ..process import ENDING, GLANCE, RECORD, tied
 from .batch_table import FAULT, HEADS, Row, Rows, contradictions, keep, read_published, read_rows
 from .csv_text import write_sheet
 from .project_file import has_activities, is_project
@@ -165,7 +165,7 @@ def row_of(task: Task, wanted: Batch, clock: Clock) -> Row | None:
     home = {"PYTHONPATH": str(pathlib.Path(__file__).resolve().parents[2])}
     if clock.stopped:
         return None
-    child = subprocess.Popen(words, stdin=subprocess.DEVNULL, stdout=subprocess.PIPE, stderr=subprocess.PIPE,
+    child = subprocess.Popen(tied(words), stdin=subprocess.DEVNULL, stdout=subprocess.PIPE, stderr=subprocess.PIPE,
                              env={**os.environ, **home}, start_new_session=True)
     out_of_it = answer_of(child, clock)
     if out_of_it is None:
