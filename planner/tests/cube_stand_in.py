@@ -19,6 +19,7 @@ from typing import Any
 sys.modules["psmax"] = types.ModuleType("psmax")
 sys.modules["psmax"].__path__ = [str(pathlib.Path(__file__).resolve().parents[2] / "python" / "psmax")]
 
+from psmax.cubes.claim import read_claim  # noqa: E402
 from psmax.project import Project  # noqa: E402
 from psmax.project_text import parse  # noqa: E402
 
@@ -138,7 +139,8 @@ def join(options: dict[str, str], data: bytes) -> int:
 def verify(options: dict[str, str], data: bytes, seconds: float) -> int:
     part = options.get("--part")
     time.sleep(seconds if part else 0)
-    claim = sys.stdin.read().removeprefix("record 3\n").strip()
+    told = sys.stdin.buffer.read().removeprefix(b"record 3\n")
+    claim = read_claim(told[1:]) or told.decode("utf-8", "replace").strip()  # of an event, or in words
     search = Search(parse(data), [], None, float("inf"))
     search.run([0])
     end = None if search.starts is None else search.starts[-1]

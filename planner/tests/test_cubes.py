@@ -46,6 +46,8 @@ FOUR = """4 1 0 0
 1
 """
 
+OPTIMAL_9 = b"record 3\n\x02\x03\x12"  # a record of a claim alone: two bytes, the kind, and 9 as a signed number
+
 
 def until(is_so: Callable[[], object]) -> None:
     end = time.monotonic() + SECONDS
@@ -355,22 +357,37 @@ class OnDask(InCubes):
 
     def test_parts_of_a_record(self) -> None:
         """A worker is killed while it checks one."""
-        record = self.file("four.log", "record 3\noptimal 9\n")
+        record = self.file("four.log", OPTIMAL_9)
         with contextlib.closing(Cluster(self.address)) as cluster:
             until(lambda: cluster.threads() == 2)
-        with started("verify", self.project, record, "--cluster", self.address) as verify:
+        with started("verify", self.project, record, "--cluster", self.address, psprove=self.psprove()) as verify:
             until(lambda: self.searches(self.workers[0].pid) or verify.poll() is not None)
             self.workers[0].kill()
             out, told = verify.communicate()
         self.assertIn("is shorter than 9, and has one that long.\n", out, told)
         self.assertIn("has judged it in 2 parts", out)
+        self.assertEqual(told.count(" is a worker of the cluster\n"), 2)
+
+    def test_parts_that_are_believed(self) -> None:
+        """One is judged here as well, and the other is that of a worker, who is named."""
+        record = self.file("four.log", OPTIMAL_9)
+        with contextlib.closing(Cluster(self.address)) as cluster:
+            until(lambda: cluster.threads() == 2)
+            names = [*cluster.workers]
+        with mock.patch("psmax.cubes.parts.OWN", 1):
+            ran = plan("verify", self.project, record, "--cluster", self.address, "--json", psprove=self.psprove())
+        told = json.loads(ran.stdout)
+        self.assertEqual((told["says"], len(told["own"]), len(told["believed"])), ("proved optimal 9", 1, 1))
+        [(name, numbers)] = told["believed"].items()
+        self.assertIn(name, names)
+        self.assertEqual(sorted([*told["own"], *numbers]), [1, 2])
 
     def test_parts_without_a_worker(self) -> None:
         """All are killed while they check a wrong record. A worker that comes later finds its fault."""
-        record = self.file("four.log", "record 3\noptimal 8\n")
+        record = self.file("four.log", OPTIMAL_9.replace(b"\x12", b"\x10"))  # 8
         with contextlib.closing(Cluster(self.address)) as cluster:
             until(lambda: cluster.threads() == 2)
-        with started("verify", self.project, record, "--cluster", self.address) as verify:
+        with started("verify", self.project, record, "--cluster", self.address, psprove=self.psprove()) as verify:
             until(lambda: self.searches(self.workers[0].pid) or verify.poll() is not None)
             for worker in self.workers:
                 worker.kill()

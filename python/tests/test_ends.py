@@ -83,7 +83,8 @@ class Ends(InFolder):
     def test_python(self) -> None:
         """By a request to end, by force, by two Ctrl-C, where a pool is left, and where a task is cancelled."""
         kill, term, once = end(signal.SIGKILL), end(signal.SIGTERM), signal.SIGINT
-        for script, ends in ((SOLVE, kill), (SOLVE, term), (SOLVE, end(once, once)), (VERIFY, kill), (POOL, wait), (TASK, wait)):
+        calls = (SOLVE, kill), (SOLVE, term), (SOLVE, end(once, once)), (VERIFY, kill), (POOL, wait), (TASK, wait)
+        for script, ends in calls:
             with self.subTest(script.removeprefix(BEGIN), ends=ends):
                 self.left([sys.executable, "-c", script, str(TWO), str(self.pid)], ends)
 

@@ -165,6 +165,8 @@ class Driver:
         return True
 
     def report(self, room: int) -> None:
+        for name in self.machines.newcomers():
+            tell(self.known.clock, f"{name} is a worker of the cluster")
         if self.known.clock.elapsed() >= self.told + TOLD:
             self.told = self.known.clock.elapsed()
             tell(self.known.clock, self.tree.state() if room else "the cluster has no worker yet")

@@ -67,7 +67,8 @@ class Machines:
         except queue.Empty:
             return None
         try:
-            return number, coming.result(FETCH)
+            row = coming.result(FETCH)
+            return number, (row if isinstance(row, dict) else {}) | {"by": self.whose(coming)}
         except (TimeoutError, CancelledError):  # the worker died with the result: Dask has the task searched again
             self.must_be_there()
             self.expect(number, coming)
@@ -78,6 +79,14 @@ class Machines:
 
     def must_be_there(self) -> None:
         """A fault where the machines are lost, and no single search."""
+
+    def whose(self, coming: Coming) -> str:
+        """Who gave this result."""
+        return "this machine"
+
+    def newcomers(self) -> list[str]:
+        """The workers that have come since this was asked last."""
+        return []
 
     def begin(self, folder: pathlib.Path) -> None:
         """Marks the folder as that of this run. Searches of a run before it end."""
@@ -150,6 +159,7 @@ class Cluster(Machines):
         for module in (cube, part):
             cloudpickle.register_pickle_by_value(module)
         self.variable = distributed.Variable
+        self.workers: dict[str, bool] = {}  # whether each was named
         try:
             self.client = distributed.Client(address, timeout=CONNECT)
             self.client.get_versions(check=True)
@@ -185,8 +195,20 @@ class Cluster(Machines):
 
     def threads(self) -> int:
         with self.reached():
-            threads: int = sum(self.client.nthreads().values())
-            return threads
+            found: dict[str, int] = self.client.nthreads()
+            self.workers |= dict.fromkeys(found.keys() - self.workers.keys(), False)
+            return sum(found.values())
+
+    def newcomers(self) -> list[str]:
+        names = [name for name, is_named in self.workers.items() if not is_named]
+        self.workers |= dict.fromkeys(names, True)
+        return names
+
+    def whose(self, coming: Coming) -> str:
+        """By what the scheduler says, and not the worker."""
+        with self.reached():
+            holders: dict[str, list[str]] = self.client.who_has([coming])
+            return ", ".join(sorted({name for names in holders.values() for name in names})) or "a worker that is gone"
 
     def room(self) -> int:
         return math.ceil(AHEAD * self.threads())

@@ -1,7 +1,8 @@
 """`plan verify`: what a record proves of a project, and who has checked it."""
 import json
 import re
-from dataclasses import dataclass
+from collections.abc import Mapping
+from dataclasses import dataclass, field
 
 from ..clock import Clock
 from ..cubes.machines import CHECK, Cluster, Machines, Processes
@@ -31,6 +32,8 @@ class Verdict:
     told: str
     wrong: bool
     parts: int = 1  # in which it was checked
+    own: tuple[int, ...] = (1,)  # those that were judged here
+    believed: Mapping[str, tuple[int, ...]] = field(default_factory=dict)  # the others, by who says that they are right
 
     @property
     def bound(self) -> int | None:
@@ -54,12 +57,19 @@ class Verdict:
                 f"the records of {cases} cases, which have all schedules between them"
             return (f"It has {which}, by the calendar of the table. `{self.program} verify`, which is proved itself, has "
                     f"judged {'it' if cases == 1 else 'each'}.")
+        if self.believed:
+            drawn = "a part, drawn" if len(self.own) == 1 else f"{len(self.own)} parts, drawn"
+            told = ", ".join(f"{name} ({len(numbers)})" for name, numbers in self.believed.items())
+            return (f"`{self.program} verify`, which is proved itself, has judged {drawn} at random of {self.parts}, on this "
+                    f"machine. The others are believed of the workers that judged them: {told}. {self.script} judges all of it "
+                    f"without {self.program}.")
         return (f"`{self.program} verify`, which is proved itself, has judged it{parts}; {self.script} judges it without "
                 f"{self.program}.")
 
     def as_json(self) -> str:
         """One line."""
         return json.dumps({"record": self.path, "project": self.which, "program": self.program, "parts": self.parts,
+                           "own": [*self.own], "believed": {name: [*numbers] for name, numbers in self.believed.items()},
                            "says": self.told, "bound": None if self.wrong else self.bound, "wrong": self.wrong})
 
 
@@ -70,8 +80,13 @@ class Shares:
     jobs: int  # of this machine, where there is no cluster
     cluster: str | None
 
-    def machines(self) -> Machines:
-        return Cluster(self.cluster, CHECK) if self.cluster else Processes(self.jobs, find_program(Psprove.name), CHECK)
+    def here(self) -> Machines:
+        return Processes(self.jobs, find_program(Psprove.name), CHECK)
+
+    def parts(self, path: str, text: bytes) -> Parts:
+        if self.cluster is None:
+            return Parts(path, text, self.here(), Clock())
+        return Parts(path, text, Cluster(self.cluster, CHECK), Clock(), self.here())
 
 
 def verdict(opened: ProjectFile, path: str, start: Start, shares: Shares | None = None) -> Verdict:
@@ -82,9 +97,9 @@ def verdict(opened: ProjectFile, path: str, start: Start, shares: Shares | None 
     if shares is None or begin == OF_PSMAX or project.dated:
         return judged(record_in(read_bytes(path, None), project), path, which)
     spelled = ProjectText(project)
-    parts = Parts(path, spelled.text, shares.machines(), Clock())
-    told, is_wrong = parts.check()
-    return Verdict(path, Record(begin, spelled), which, Psprove.name, "verify_log.py", told, is_wrong, parts.count)
+    found = shares.parts(path, spelled.text).check()
+    return Verdict(path, Record(begin, spelled), which, Psprove.name, "verify_log.py", found.says, found.is_wrong,
+                   found.count, found.own, found.believed)
 
 
 def judged(record: Record, path: str, which: str) -> Verdict:
