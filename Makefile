@@ -13,10 +13,10 @@
 # make bench    measure the program, and with OTHER=PROGRAM that program in turn with it
 PREFIX ?= /usr/local
 JOBS ?= $(shell nproc)
-MODULES := $(shell cd python && find psmax -name '*.py' -o -name '*.html' -o -name '*.css' -o -name '*.js' -o -name '*.json' -o -name py.typed)
 VERSION := $(shell sed -n 's/^__version__ = "\(.*\)".*/\1/p' python/psmax/__init__.py)
 SOURCES := crates.txt HANDLES $(shell find crates -path '*/out' -prune -o \( -name '*.rt' -o -name '*.antt' \) -print)
 AT_HAND := $(shell if [ build/psmax -nt release/psmax ]; then echo build; else echo release; fi)
+export PREFIX DESTDIR AT_HAND
 
 all: build/psmax
 
@@ -61,19 +61,8 @@ reference-page:
 	python3 -m reference.page
 
 # The programs at hand are installed as they are: that needs no toolchain.
-install:
-	install -d $(DESTDIR)$(PREFIX)/bin
-	install -m 755 $(AT_HAND)/psmax $(AT_HAND)/psprove $(DESTDIR)$(PREFIX)/bin
-	install -D -m 755 planner/plan $(DESTDIR)$(PREFIX)/bin/plan
-	for file in $(MODULES); do install -D -m 644 python/$$file $(DESTDIR)$(PREFIX)/share/psmax/$$file; done
-	install -m 755 tests/verify.py tests/verify_log.py tests/show_log.py $(DESTDIR)$(PREFIX)/share/psmax
-	install -d $(DESTDIR)$(PREFIX)/share/man/man1
-	install -m 644 docs/psmax.1 docs/psprove.1 docs/plan.1 $(DESTDIR)$(PREFIX)/share/man/man1
-	python3 docs/install.py $(DESTDIR)$(PREFIX)/share/doc/psmax
-
-uninstall:
-	rm -f $(foreach name,psmax psprove plan,$(DESTDIR)$(PREFIX)/bin/$(name) $(DESTDIR)$(PREFIX)/share/man/man1/$(name).1)
-	rm -rf $(DESTDIR)$(PREFIX)/share/psmax $(DESTDIR)$(PREFIX)/share/doc/psmax
+install uninstall:
+	@python3 python/installing.py $@
 
 wheel:
 	python3 python/packing.py build
@@ -81,9 +70,10 @@ wheel:
 deb:
 	rm -rf build/deb
 	$(MAKE) -s install DESTDIR=build/deb PREFIX=/usr AT_HAND=release
-	install -d build/deb/DEBIAN build/deb/usr/lib/python3/dist-packages
+	rm build/deb/usr/share/psmax/installed
+	umask 022 && install -d build/deb/DEBIAN build/deb/usr/lib build/deb/usr/lib/python3 build/deb/usr/lib/python3/dist-packages
 	ln -s ../../../share/psmax/psmax build/deb/usr/lib/python3/dist-packages/psmax
-	sed 's/VERSION/$(VERSION)/' python/debian-control > build/deb/DEBIAN/control
+	umask 022 && sed 's/VERSION/$(VERSION)/' python/debian-control > build/deb/DEBIAN/control
 	dpkg-deb --root-owner-group --build build/deb build/psmax_$(VERSION)_amd64.deb
 
 lint:

@@ -48,11 +48,16 @@ def metadata() -> str:
     return "".join(lines) + "\n" + (TOP / "README.md").read_text()
 
 
-def package() -> Iterator[tuple[str, bytes, int]]:
-    """The files of the package: their names in the wheel, what they hold and their permissions."""
+def modules() -> Iterator[tuple[str, bytes, int]]:
+    """The files of the package: their names, what they hold and their permissions."""
     for path in sorted((TOP / "python/psmax").rglob("*")):
         if path.suffix in KINDS and "__pycache__" not in path.parts:
             yield str(path.relative_to(TOP / "python")), path.read_bytes(), 0o644
+
+
+def package() -> Iterator[tuple[str, bytes, int]]:
+    """The same in the wheel, with the programs."""
+    yield from modules()
     for folder in ("psmax/bin", f"psmax-{version()}.data/scripts"):  # for the package, and as commands
         for name in PROGRAMS:
             yield f"{folder}/{name}", (TOP / "release" / name).read_bytes(), 0o755

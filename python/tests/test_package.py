@@ -68,8 +68,39 @@ class Installed(InFolder):
             ran = self.run_there(*verify, *given)
             self.assertIn(ran.returncode, (1, 2))
             self.assertEqual((ran.stdout, len(ran.stderr.splitlines())), ("", 1), ran.stderr)
+        before = {path.name for path in self.folder.iterdir()}
         self.made("uninstall", f"PREFIX={self.folder}")
-        self.assertEqual([path for path in share.rglob("*") if path.is_file()] + [*(self.folder / "bin").iterdir()], [])
+        self.assertEqual({path.name for path in self.folder.iterdir()}, before - {"bin", "share"})
+
+    def test_odd_places(self) -> None:
+        """Names with blanks and signs, a umask that lets nobody in, and a root. All may read what is installed. Nothing is
+        written elsewhere, and nothing of it is left."""
+        before, sources = os.umask(0o077), sorted(path.name for path in TOP.iterdir())
+        self.addCleanup(os.umask, before)
+        for root, prefix in (("", f"{self.folder}/a pre 'fix$HOME;x"), (f"{self.folder}/the \"root\"", "/usr/lo cal")):
+            with self.subTest(root=root, prefix=prefix):
+                there = pathlib.Path(root + prefix)
+                words = f"DESTDIR={root.replace('$', '$$')}", f"PREFIX={prefix.replace('$', '$$')}", "AT_HAND=release"
+                self.made("install", *words)
+                self.assertEqual(self.run_there(there / "bin" / "plan", "--version").returncode, 0)
+                modes = {path.name: path.stat().st_mode & 0o777 for path in [there, *there.rglob("*")]}
+                programs = "bin", "share", "psmax", "psprove", "plan", "verify_log.py"
+                self.assertEqual({modes[name] for name in programs}, {0o755})
+                self.assertEqual({modes[name] for name in ("README.md", "plan.1", "table.py")}, {0o644})
+                self.file("mine", "x").rename(there / "share" / "mine")
+                self.made("install", *words)
+                self.made("uninstall", *words)
+                self.assertEqual([path.name for path in there.rglob("*")], ["share", "mine"])
+                (there / "share" / "mine").unlink()
+                (there / "share").rmdir()
+        self.assertEqual(sorted(path.name for path in TOP.iterdir()), sources)
+
+    def test_folders_that_were_there(self) -> None:
+        """They stay, also where they are empty."""
+        (self.folder / "usr" / "bin").mkdir(parents=True)
+        self.made("install", f"DESTDIR={self.folder}", "PREFIX=/usr", "AT_HAND=release")
+        self.made("uninstall", f"DESTDIR={self.folder}", "PREFIX=/usr")
+        self.assertEqual([path.name for path in self.folder.rglob("*")], ["usr", "bin"])
 
     def no_dead_links(self, documents: pathlib.Path) -> None:
         """Each relative link of an installed document leads to an installed file; those of the manual pages too."""
