@@ -4,7 +4,6 @@ import re
 from collections.abc import Collection
 from dataclasses import dataclass
 from math import gcd
-from zoneinfo import ZoneInfo, ZoneInfoNotFoundError
 
 from .calendars import MINUTES, Calendar, Days, Moments, Shifts
 from .dates import Moment, read_moment, read_shift, read_workdays
@@ -73,10 +72,13 @@ def minutes_of(unit: str) -> int:
 
 def zone(text: str | None) -> datetime.tzinfo:
     """By the time zones of the system."""
+    if text is None:
+        return datetime.UTC
+    from zoneinfo import ZoneInfo, ZoneInfoNotFoundError
     try:
-        return datetime.UTC if text is None else ZoneInfo(text)
+        return ZoneInfo(text)
     except (ZoneInfoNotFoundError, ValueError, OSError):
-        raise BadInput(f"zone {short(text or '')}: no time zone that this system knows, such as Europe/Berlin") from None
+        raise BadInput(f"zone {short(text)}: no time zone that this system knows, such as Europe/Berlin") from None
 
 
 def shift(text: str | None, minutes: int) -> tuple[tuple[int, int], ...]:

@@ -8,7 +8,7 @@ from ..errors import BadInput
 from ..files import LARGEST, decoded
 from ..letters import composed, short
 from ..model import Parts
-from . import job_shop, json_text, mspdi, mspdi_text, rcp, sch, sm, taillard
+from . import job_shop, json_text, mspdi_sign, rcp, sch, sm, taillard
 
 
 @dataclass(frozen=True)
@@ -22,10 +22,20 @@ class Format:
     write: Callable[[Parts], str]
 
 
+def read_mspdi(text: str, project: Parts) -> None:
+    from . import mspdi
+    mspdi.read(text, project)
+
+
+def write_mspdi(project: Parts) -> str:
+    from . import mspdi_text
+    return mspdi_text.write(project)
+
+
 # In the order in which a text is looked at.
 FORMATS = {one.name: one for one in (
     Format("json", (json_text.SUFFIX,), json_text.is_like, json_text.read, json_text.write),
-    Format("mspdi", (mspdi.SUFFIX,), mspdi.is_like, mspdi.read, mspdi_text.write),
+    Format("mspdi", (mspdi_sign.SUFFIX,), mspdi_sign.is_like, read_mspdi, write_mspdi),
     Format("sm", (sm.SUFFIX,), sm.is_like, sm.read, sm.write),
     Format("open-shop", (), taillard.is_like_open_shop, taillard.read_open_shop, taillard.write_open_shop),
     Format("taillard", (), taillard.is_like_job_shop, taillard.read_job_shop, taillard.write_job_shop),

@@ -20,7 +20,6 @@ from .mspdi_outline import Outline, is_set
 from .mspdi_resources import Needs
 from .xml_tree import parsed, text_of
 
-SUFFIX = ".xml"
 SPACE = "http://schemas.microsoft.com/project"
 LENGTH = re.compile(r"PT(\d{1,7})H(\d{1,3})M(\d{1,3})(?:\.\d+)?S")
 ENDS = {"0": (True, True), "1": (True, False), "2": (False, True), "3": (False, False)}  # of links: FF, FS, SF and SS
@@ -28,10 +27,6 @@ ELAPSED = {f"{kind + more}" for kind in (4, 6, 8, 10, 12, 20) for more in (0, 32
 SHARES = {"19", "51"}  # lags that are a part of a duration
 TENTHS = 10  # of a minute, in which lags are told
 FIRST_YEAR, LAST_YEAR = 1900, 2200  # of dates
-
-
-def is_like(text: str) -> bool:
-    return text.lstrip().startswith("<") and re.search(r"<(\w+:)?Project\b", text[:10_000]) is not None
 
 
 @dataclass(frozen=True)

@@ -1,5 +1,4 @@
 """The rows above a table: settings, a title, and notes behind #. What is none of these is a fault."""
-import difflib
 import os
 import re
 from collections.abc import Callable, Iterator, Mapping
@@ -108,8 +107,9 @@ def spelled(name: str) -> str:
 
 def meant(name: str) -> str:
     """What the name of a setting may be meant for, or what else may stand above a table."""
+    from difflib import get_close_matches
     lower = spelled(name)
-    near = [word for word in WORDS if re.match(rf"{word}\b", lower)] or difflib.get_close_matches(lower, WORDS, 1, NEAR)
+    near = [word for word in WORDS if re.match(rf"{word}\b", lower)] or get_close_matches(lower, WORDS, 1, NEAR)
     if near:
         return f"; did you mean '{near[0]}'?"
     return "; write a title behind 'title', and a note for people behind '#'"

@@ -160,13 +160,9 @@ def outputs(task: Task, wanted: Batch) -> list[tuple[str, str]]:
 def row_of(task: Task, wanted: Batch, clock: Clock) -> Row | None:
     """What one search knows at its end; none where the batch was ended before."""
     named = [word for output in outputs(task, wanted) for word in output]
-    words = [sys.executable, "-m", "psmax.planner", "solve", str(task.path), "--json", "--jobs", "1", "--seconds",
-             f"{wanted.seconds:g}", *named]
-    home = {"PYTHONPATH": str(pathlib.Path(__file__).resolve().parents[2])}
     if clock.stopped:
         return None
-    child = subprocess.Popen(tied(words), stdin=subprocess.DEVNULL, stdout=subprocess.PIPE, stderr=subprocess.PIPE,
-                             env={**os.environ, **home}, start_new_session=True)
+    child = begin([str(task.path), "--json", "--jobs", "1", "--seconds", f"{wanted.seconds:g}", *named])
     out_of_it = answer_of(child, clock)
     if out_of_it is None:
         return None
@@ -179,6 +175,13 @@ def row_of(task: Task, wanted: Batch, clock: Clock) -> Row | None:
     known = {head: f"{told[head]}" for head in heads if told[head] is not None}
     return row | known | {"activities": f"{len(told['durations'])}", "plan": told["versions"]["plan"],
                           "psprove": told["versions"]["psprove"]}
+
+
+def begin(words: Sequence[str]) -> subprocess.Popen[bytes]:
+    """`plan solve` as a process of its own, which starts soon without the packages of the machine (-S)."""
+    home = {"PYTHONPATH": str(pathlib.Path(__file__).resolve().parents[2])}
+    return subprocess.Popen([sys.executable, "-S", "-m", "psmax.planner", "solve", *words], stdin=subprocess.DEVNULL,
+                            stdout=subprocess.PIPE, stderr=subprocess.PIPE, env={**os.environ, **home}, start_new_session=True)
 
 
 def answer_of(child: subprocess.Popen[bytes], clock: Clock) -> tuple[str, str] | None:

@@ -6,6 +6,8 @@ from ..calendars import Calendar
 from .project_file import ProjectFile
 from .window import Stretch, Window, away, stretches
 
+PICTURE = b"<svg "  # how one begins
+
 
 @dataclass(frozen=True)
 class Bar:

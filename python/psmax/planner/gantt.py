@@ -5,7 +5,7 @@ from ..call_files import lose_none, must_be_like
 from ..clock import Clock
 from ..files import STANDARD_INPUT, write_whole
 from ..psmax import Psmax
-from . import drawing, svg
+from . import drawing
 from .answer import judged
 from .answer_text import read_answer
 from .drawing import Bar, Drawing, Load
@@ -133,10 +133,11 @@ class Chart:
 
     def must_fit(self) -> None:
         """A file that is there and no picture stays."""
-        must_be_like(self.svg, svg.BEGIN, "picture")
+        must_be_like(self.svg, drawing.PICTURE, "picture")
 
     def show(self, shown: Drawing) -> None:
         if self.svg is not None:
+            from . import svg
             write_whole(self.svg, svg.draw(shown).encode())
         else:
             print(text(shown, self.width), end="")

@@ -1,6 +1,5 @@
 """The lags of a table: what its columns `after`, `at least`, `at most` and `predecessors` say, as arcs from start to
 start."""
-import difflib
 import re
 from collections.abc import Collection, Sequence
 from dataclasses import dataclass, field
@@ -179,8 +178,9 @@ def no_activity(activities: Activities, name: str) -> str:
 
 def did_you_mean(name: str, names: list[str]) -> str:
     """The one that differs by its case alone, else the nearest one."""
+    from difflib import get_close_matches
     folded = [other for other in names if other.casefold() == name.casefold()]
-    near = folded or difflib.get_close_matches(name, names, 1, 0.8)
+    near = folded or get_close_matches(name, names, 1, 0.8)
     return f"; did you mean '{short(near[0])}'?" if near else ""
 
 

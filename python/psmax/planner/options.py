@@ -1,4 +1,4 @@
-"""The arguments of the command line."""
+"""The arguments of the command line. Each command imports what it runs by itself, so that it starts soon."""
 import argparse
 import math
 import os
@@ -7,19 +7,18 @@ import re
 from collections.abc import Callable, Sequence
 from dataclasses import fields
 from functools import partial
-from typing import NoReturn
+from typing import TYPE_CHECKING, NoReturn
 
-from ..cubes.folder import PROJECT, is_marked, must_be_whole
 from ..dates import ORDERS
 from ..errors import BadInput
-from ..formats import FORMATS
 from ..project import MOST_UNITS
-from . import (batch, batch_table, check, compare, cubes, floats, gantt, join, read, report, solve, status, verify, whatif,
-               where, why, write)
-from .beginning import Start
 from .csv_text import SEPARATORS
-from .project_file import ProjectFile, open_project
 from .settings import GOALS, Settings, checked
+
+if TYPE_CHECKING:
+    from .beginning import Start
+    from .project_file import ProjectFile
+    from .write import Sheet
 
 SECONDS, MOST_SECONDS = 60.0, 1_000_000
 MOST_JOBS = 64  # of psprove
@@ -38,6 +37,7 @@ class Version(argparse.Action):
     """Prints the versions of all that an answer depends on."""
 
     def __call__(self, parser: argparse.ArgumentParser, *_: object) -> None:
+        from . import solve
         found = solve.versions()
         print(f"plan {found['plan']}, psmax {found['psmax']}, psprove {found['psprove']}, Python {found['python']}")
         parser.exit()
@@ -106,15 +106,24 @@ def add_solve(one: argparse.ArgumentParser) -> None:
 
 
 def run_solve(options: argparse.Namespace) -> int:
+    from . import solve
     out, seconds, places = options.out, options.seconds, None
     if options.cluster is not None and out is None:
         raise BadInput("--cluster needs --out, a folder for the cubes")
-    if options.cluster is not None or out is not None and (out.endswith("/") or is_marked(out)):
+    if options.cluster is not None or out is not None and (out.endswith("/") or has_cubes(out)):
+        from . import cubes
         places, out = cubes.Places(out, options.cluster, options.jobs, options.record), None
     if seconds is None:
         seconds = SECONDS if places is None else math.inf
     return solve.solve(opened(options), start(options), solve.Options(
         seconds, options.jobs, out, options.svg, options.record, options.json, places))
+
+
+def has_cubes(folder: str) -> bool:
+    if not os.path.isdir(folder):
+        return False
+    from ..cubes.folder import is_marked
+    return is_marked(folder)
 
 
 def add_project(one: argparse.ArgumentParser) -> None:
@@ -123,7 +132,8 @@ def add_project(one: argparse.ArgumentParser) -> None:
     add_settings(one)
 
 
-def opened(options: argparse.Namespace) -> ProjectFile:
+def opened(options: argparse.Namespace) -> "ProjectFile":
+    from .project_file import open_project
     return open_project(options.project, settings(options), options.names)
 
 
@@ -160,7 +170,8 @@ def add_start(one: argparse.ArgumentParser) -> None:
     one.add_argument("--frozen", metavar="DAY", help="keep what starts before this day or period in --start")
 
 
-def start(options: argparse.Namespace) -> Start:
+def start(options: argparse.Namespace) -> "Start":
+    from .beginning import Start
     return Start(options.start, options.frozen)
 
 
@@ -177,8 +188,10 @@ def add_verify(one: argparse.ArgumentParser) -> None:
 
 
 def run_verify(options: argparse.Namespace) -> int:
+    from . import verify
     record = options.project if options.record is None else options.record
-    if is_marked(record):
+    if has_cubes(record):
+        from ..cubes.folder import PROJECT, must_be_whole
         must_be_whole(pathlib.Path(record))
         if options.record is None:
             options.project = os.path.join(record, PROJECT)
@@ -191,7 +204,12 @@ def run_verify(options: argparse.Namespace) -> int:
 
 def add_status(one: argparse.ArgumentParser) -> None:
     add_folder(one)
-    one.set_defaults(run=lambda o: status.status(o.folder))
+    one.set_defaults(run=run_status)
+
+
+def run_status(options: argparse.Namespace) -> int:
+    from . import status
+    return status.status(options.folder)
 
 
 def add_folder(one: argparse.ArgumentParser) -> None:
@@ -201,15 +219,26 @@ def add_folder(one: argparse.ArgumentParser) -> None:
 def add_join(one: argparse.ArgumentParser) -> None:
     add_folder(one)
     one.add_argument("--record", metavar="FILE", help="write the record into FILE (default: record, in the folder)")
-    one.set_defaults(run=lambda o: join.join(o.folder, o.record))
+    one.set_defaults(run=run_join)
+
+
+def run_join(options: argparse.Namespace) -> int:
+    from . import join
+    return join.join(options.folder, options.record)
 
 
 def add_read(one: argparse.ArgumentParser) -> None:
+    from ..formats import FORMATS
     one.add_argument("table", metavar="TABLE", help="a table in CSV or a project text; - for standard input")
     one.add_argument("--out", metavar="PROJECT", help="write the project there (default: beside the table, as .sch)")
     one.add_argument("--to", choices=[*FORMATS], help="the format that is written (default: as the suffix of --out says)")
     add_settings(one)
-    one.set_defaults(run=lambda o: read.read(o.table, o.out, o.to, settings(o)))
+    one.set_defaults(run=run_read)
+
+
+def run_read(options: argparse.Namespace) -> int:
+    from . import read
+    return read.read(options.table, options.out, options.to, settings(options))
 
 
 def add_schedule(one: argparse.ArgumentParser) -> None:
@@ -226,15 +255,21 @@ def add_table(one: argparse.ArgumentParser) -> None:
                      help="between cells (default: comma; with --excel that of the table)")
 
 
-def table(options: argparse.Namespace) -> write.Sheet:
-    return write.Sheet(options.out, options.excel, options.separator)
+def table(options: argparse.Namespace) -> "Sheet":
+    from .write import Sheet
+    return Sheet(options.out, options.excel, options.separator)
 
 
 def add_write(one: argparse.ArgumentParser) -> None:
     add_schedule(one)
     add_table(one)
     one.add_argument("--resource", metavar="NAME", help="write only what needs this resource into a calendar")
-    one.set_defaults(run=lambda o: write.write(opened(o), o.answer, table(o), o.resource))
+    one.set_defaults(run=run_write)
+
+
+def run_write(options: argparse.Namespace) -> int:
+    from . import write
+    return write.write(opened(options), options.answer, table(options), options.resource)
 
 
 def add_float(one: argparse.ArgumentParser) -> None:
@@ -246,9 +281,14 @@ def add_float(one: argparse.ArgumentParser) -> None:
                      help="prove the latest start in any schedule that is no longer; --out is then a new folder, for records")
     add_start(one)
     add_limits(one)
-    one.set_defaults(run=lambda o: floats.floats(
-        opened(o), o.answer, table(o), gantt.Chart(o.svg, o.width, o.chart or o.svg is not None),
-        floats.Total(o.seconds, o.jobs, start(o)) if o.total else None))
+    one.set_defaults(run=run_float)
+
+
+def run_float(options: argparse.Namespace) -> int:
+    from . import floats, gantt
+    chart = gantt.Chart(options.svg, options.width, options.chart or options.svg is not None)
+    total = floats.Total(options.seconds, options.jobs, start(options)) if options.total else None
+    return floats.floats(opened(options), options.answer, table(options), chart, total)
 
 
 def add_chart(one: argparse.ArgumentParser) -> None:
@@ -260,7 +300,12 @@ def add_chart(one: argparse.ArgumentParser) -> None:
 def add_gantt(one: argparse.ArgumentParser) -> None:
     add_schedule(one)
     add_chart(one)
-    one.set_defaults(run=lambda o: gantt.gantt(opened(o), o.answer, gantt.Chart(o.svg, o.width)))
+    one.set_defaults(run=run_gantt)
+
+
+def run_gantt(options: argparse.Namespace) -> int:
+    from . import gantt
+    return gantt.gantt(opened(options), options.answer, gantt.Chart(options.svg, options.width))
 
 
 def add_report(one: argparse.ArgumentParser) -> None:
@@ -270,8 +315,13 @@ def add_report(one: argparse.ArgumentParser) -> None:
     one.add_argument("--paper", choices=["A4", "A3"], default="A4", help="what it is printed on (default A4)")
     add_start(one)
     add_limits(one)
-    one.set_defaults(run=lambda o: report.report(opened(o), o.answer, start(o), report.Options(
-        o.record, o.out, o.paper, o.seconds, o.jobs)))
+    one.set_defaults(run=run_report)
+
+
+def run_report(options: argparse.Namespace) -> int:
+    from . import report
+    return report.report(opened(options), options.answer, start(options), report.Options(
+        options.record, options.out, options.paper, options.seconds, options.jobs))
 
 
 def add_watch(one: argparse.ArgumentParser) -> None:
@@ -286,14 +336,19 @@ def add_watch(one: argparse.ArgumentParser) -> None:
 
 
 def run_watch(options: argparse.Namespace) -> int:
-    from . import watch  # its server takes longer to import than many a command
+    from . import watch
     return watch.watch(options.table, settings(options), start(options), watch.Options(
         options.seconds, options.jobs, options.record, options.port, options.open))
 
 
 def add_check(one: argparse.ArgumentParser) -> None:
     add_schedule(one)
-    one.set_defaults(run=lambda o: check.check(opened(o), o.answer))
+    one.set_defaults(run=run_check)
+
+
+def run_check(options: argparse.Namespace) -> int:
+    from . import check
+    return check.check(opened(options), options.answer)
 
 
 def add_compare(one: argparse.ArgumentParser) -> None:
@@ -308,6 +363,8 @@ def add_compare(one: argparse.ArgumentParser) -> None:
 
 
 def run_compare(options: argparse.Namespace) -> int:
+    from . import compare, why
+    from .beginning import Start
     found = opened(options)
     begun = Start(options.old if options.frozen is not None else None, options.frozen)
     cause = partial(why.why, found, begun, seconds=options.seconds, jobs=options.jobs, out=options.out)
@@ -321,19 +378,34 @@ def add_why(one: argparse.ArgumentParser) -> None:
     one.add_argument("--out", metavar="FOLDER", help="write the proof into this new folder")
     add_start(one)
     add_limits(one)
-    one.set_defaults(run=lambda o: why.why(opened(o), start(o), o.within, o.seconds, o.jobs, o.out))
+    one.set_defaults(run=run_why)
+
+
+def run_why(options: argparse.Namespace) -> int:
+    from . import why
+    return why.why(opened(options), start(options), options.within, options.seconds, options.jobs, options.out)
 
 
 def add_whatif(one: argparse.ArgumentParser) -> None:
     add_project(one)
     add_limits(one)
     add_table(one)
-    one.set_defaults(run=lambda o: whatif.whatif(opened(o), o.seconds, o.jobs, table(o)))
+    one.set_defaults(run=run_whatif)
+
+
+def run_whatif(options: argparse.Namespace) -> int:
+    from . import whatif
+    return whatif.whatif(opened(options), options.seconds, options.jobs, table(options))
 
 
 def add_where(one: argparse.ArgumentParser) -> None:
     one.add_argument("project", metavar="PROJECT", help="a project in a .sch file")
-    one.set_defaults(run=lambda o: where.where(o.project))
+    one.set_defaults(run=run_where)
+
+
+def run_where(options: argparse.Namespace) -> int:
+    from . import where
+    return where.where(options.project)
 
 
 def add_batch(one: argparse.ArgumentParser) -> None:
@@ -352,6 +424,7 @@ def add_batch(one: argparse.ArgumentParser) -> None:
 
 
 def run_batch(options: argparse.Namespace) -> int:
+    from . import batch, batch_table
     if (not options.folders) == (options.join is None):
         raise BadInput("either a FOLDER, or --join and tables; see plan batch --help")
     if options.join is not None:

@@ -1,7 +1,6 @@
 """A project as it is opened: a table, which is read anew each time, a .sch file with its page of names, or a text of another
 format."""
 import datetime
-import hashlib
 import os
 import re
 from dataclasses import dataclass, field, replace
@@ -15,7 +14,6 @@ from ..formats import FORMATS, read
 from ..formats.sch import CTRL_Z
 from ..project import Goal
 from ..project import Project as Numbers
-from ..api import Project
 from ..psmax import Psmax
 from ..project_text import ProjectText, parse
 from .columns import is_head
@@ -129,6 +127,7 @@ def is_other(text: str) -> bool:
 
 def open_other(path: str, data: bytes, words: Settings, page: str | None) -> ProjectFile:
     """The project of another format, which may have a work time of its own; the words say what it doesn't."""
+    from ..api import Project
     made = Project()
     read(data, made, path)
     names = Names({one.number: one.name for one in made.activities}, [one.name for one in made.resources])
@@ -227,8 +226,9 @@ def open_text(path: str, data: bytes, words: Settings, page: str | None) -> Proj
 def made_of(path: str, data: bytes, names: Names, told: Settings, words: Settings, table: str,
             sources: dict[str, str]) -> ProjectFile:
     """What the table says, once it is sure that the project is what `plan read` makes of it."""
+    from hashlib import sha256
     advice = f"give the table itself, or make the project again by `plan read {table}`"
-    if names.digest and hashlib.sha256(read_bytes(table)).hexdigest() != names.digest:
+    if names.digest and sha256(read_bytes(table)).hexdigest() != names.digest:
         raise BadInput(f"{path} is older than its table {table}, which was changed; {advice}")
     text, folder = read_text(table), os.path.dirname(table)
     found = read_table(table, text, Settings(), folder, told)

@@ -1,10 +1,10 @@
 """`plan solve`: a search by psprove with names, dates and files, or many of its cubes. What it says psprove has
 proved."""
 import json
-import platform
 import sys
 from dataclasses import dataclass
 from functools import partial
+from typing import TYPE_CHECKING
 
 from .. import __version__
 from ..call_files import lose_none, must_be_like
@@ -17,12 +17,15 @@ from ..psmax import Psmax
 from ..psprove import Psprove
 from ..record import BEGIN
 from ..search import search
-from . import cubes, drawing, svg
+from . import drawing
 from .answer_file import AnswerFile, activities_of
 from .beginning import Start, begin_with, go_on
 from .headline import called, headline
 from .project_file import ProjectFile
 from .read_back import first_line
+
+if TYPE_CHECKING:
+    from .cubes import Places
 
 
 @dataclass(frozen=True)
@@ -35,7 +38,7 @@ class Options:
     svg: str | None
     record: str | None
     json: bool
-    places: cubes.Places | None = None  # of a search in cubes
+    places: "Places | None" = None  # of a search in cubes
 
 
 def solve(opened: ProjectFile, start: Start, options: Options) -> int:
@@ -45,7 +48,7 @@ def solve(opened: ProjectFile, start: Start, options: Options) -> int:
     else:
         options.places.must_lose_none(reads, [options.svg])
     must_be_like(options.record, BEGIN, "record")
-    must_be_like(options.svg, svg.BEGIN, "picture")
+    must_be_like(options.svg, drawing.PICTURE, "picture")
     kept = None if options.out is None else AnswerFile(options.out, opened)
     there = kept.look() if kept is not None else None
     before = None if kept is None or start.answer is not None else kept.before
@@ -66,6 +69,7 @@ def solve(opened: ProjectFile, start: Start, options: Options) -> int:
         known.offer(starts, f"{source}, by check")
     try:
         if options.places is not None:
+            from . import cubes
             cubes.search(beginning, known, options.places)
         else:
             psprove = Psprove(clock, opened.path)
@@ -95,6 +99,7 @@ def give(known: Incumbent, opened: ProjectFile, options: Options, kept: AnswerFi
     if options.record is not None and known.record:
         write_whole(options.record, known.record)
     if options.svg is not None and known.starts is not None:
+        from . import svg
         write_whole(options.svg, svg.draw(drawing.make(opened, known.starts, lines[0], tuple(lines[1:]))).encode())
 
 
@@ -135,4 +140,4 @@ def versions() -> dict[str, str]:
             found[program.name] = program(Clock()).version()
         except Failed:
             found[program.name] = "not found"
-    return found | {"python": platform.python_version()}
+    return found | {"python": sys.version.split()[0]}

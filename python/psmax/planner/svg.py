@@ -8,7 +8,6 @@ from .drawing import Drawing
 TOP = 32  # pixels of the title
 TIME = 900  # pixels of the time that is shown
 LETTER = 7  # pixels of a letter, about
-BEGIN = b"<svg "
 
 
 def draw(shown: Drawing) -> str:

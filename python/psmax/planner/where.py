@@ -23,7 +23,8 @@ ROW_FAULTS = {  # the end of psmax's text, and the kinds of place that it is abo
 
 def where(path: str) -> int:
     data = read_bytes(path)
-    must_be_text(path, data)
+    if len(data) <= LARGEST:
+        must_be_text(path, data)
     try:
         Psmax(Clock(), path).earliest_of_text(data)
     except BadInput as fault:

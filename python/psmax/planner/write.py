@@ -6,13 +6,11 @@ import pathlib
 import sys
 from dataclasses import dataclass
 
-from ..answer import Schedule
-from ..api import Project
 from ..call_files import lose_none, must_be_like
 from ..clock import Clock
 from ..errors import BadInput
 from ..files import STANDARD_INPUT, read_bytes, write_whole
-from ..formats import mspdi, mspdi_text
+from ..formats import mspdi_sign
 from ..psmax import Psmax
 from . import icalendar
 from .answer import feasible
@@ -101,7 +99,7 @@ def write(opened: ProjectFile, given: str | None, sheet: Sheet, resource: str | 
     if suffix == icalendar.SUFFIX:
         must_be_like(sheet.out, icalendar.BEGIN, "calendar")
         put(icalendar.calendar_text(opened, known.starts, resource, datetime.datetime.now(datetime.UTC)), sheet.out)
-    elif suffix == mspdi.SUFFIX:
+    elif suffix == mspdi_sign.SUFFIX:
         must_be_like(sheet.out, b"<", "XML")
         put(replanned(opened, known.starts), sheet.out)
     else:
@@ -115,8 +113,11 @@ def write(opened: ProjectFile, given: str | None, sheet: Sheet, resource: str | 
 
 def replanned(opened: ProjectFile, starts: tuple[int, ...]) -> str:
     """The file of the project with these starts, where it is one of Microsoft Project."""
+    from ..answer import Schedule
+    from ..api import Project
+    from ..formats import mspdi_text
     text = read_bytes(opened.path).decode("utf-8-sig", "replace")
-    if not mspdi.is_like(text):
+    if not mspdi_sign.is_like(text):
         raise BadInput(f"{opened.path} is no project of Microsoft Project (MSPDI), into which starts could be written")
     project = Project.read(text.encode())
     return mspdi_text.replanned(text, Schedule(project, starts))
