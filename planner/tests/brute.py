@@ -33,10 +33,12 @@ class Small:
         return "\n".join(["resource,from,to,units", *rows]) + "\n"
 
     def schedules(self) -> Iterator[tuple[int, ...]]:
-        for starts in itertools.product(range(HORIZON), repeat=len(self.days)):
-            if all(least <= starts[last] - starts[first] and (most is None or starts[last] - starts[first] <= most)
-                   for first, last, least, most in self.lags) and self.is_enough(starts):
-                yield starts
+        found: list[tuple[int, ...]] = [()]
+        for last in range(len(self.days)):
+            lags = [(first, least, HORIZON if most is None else most) for first, own, least, most in self.lags if own == last]
+            found = [(*starts, time) for starts in found for time in range(HORIZON)
+                     if all(least <= time - starts[first] <= most for first, least, most in lags)]
+        return filter(self.is_enough, found)
 
     def is_enough(self, starts: tuple[int, ...]) -> bool:
         for what, needs, there in (("crane", self.crane, 1), ("fitters", self.fitters, 2)):

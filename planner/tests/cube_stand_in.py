@@ -4,38 +4,58 @@ Stands in for the psprove that searches cubes, on projects of a few activities, 
 at least, and stays open after one try for each 100 conflicts. One that isn't of a cube makes no try. Its log says in JSON
 what it found, which `join` believes where the log is whole and of its cube. `verify` tries all starts again; a part of it takes
 SECONDS, too."""
-import hashlib
+from __future__ import annotations
+
 import json
-import pathlib
+import os.path
 import sys
 import threading
 import time
-import types
-from collections.abc import Iterator
+import zlib
 from itertools import combinations
-from typing import Any
 
-# The package without its own module, which imports all of it: a test starts this a hundred times.
-sys.modules["psmax"] = types.ModuleType("psmax")
-sys.modules["psmax"].__path__ = [str(pathlib.Path(__file__).resolve().parents[2] / "python" / "psmax")]
+TYPE_CHECKING = False  # what the types need, which this doesn't import: a test starts it a hundred times
+if TYPE_CHECKING:
+    from collections.abc import Iterator
+    from typing import Any
 
-from psmax.cubes.claim import read_claim  # noqa: E402
-from psmax.project import Project  # noqa: E402
-from psmax.project_text import parse  # noqa: E402
+    Row = dict[str, Any]
+    Arcs = list[list[int]]
 
-Arcs = list[list[int]]
-Row = dict[str, Any]
+
+class Project:
+    """A project text as psmax writes it: a line for the lags of each activity, one for its duration and demands, and one for
+    the capacities."""
+
+    def __init__(self, data: bytes) -> None:
+        (count, resources, *_), *lines = [line.replace("[", "").replace("]", "").split() for line in data.decode().splitlines()]
+        self.end = int(count) + 1
+        lags = [[int(word) for word in line] for line in lines[: self.end + 1]]
+        self.arcs = [(line[0], head, lag) for line in lags for head, lag in zip(line[3 : 3 + line[2]], line[3 + line[2] :])]
+        needs = [[int(word) for word in line[2:]] for line in lines[self.end + 1 : 2 * self.end + 2]]
+        self.durations, self.demands = [line[0] for line in needs], [line[1:] for line in needs]
+        self.capacities = [int(word) for word in lines[-1]] if int(resources) else []
+
+
+def read(path: str) -> str:
+    with open(path) as file:
+        return file.read()
+
+
+def write(path: str, text: str) -> None:
+    with open(path, "w") as file:
+        file.write(text)
 
 
 def numbers(path: str | None) -> Arcs:
-    return [[int(word) for word in line.split()] for line in pathlib.Path(path).read_text().splitlines()] if path else []
+    return [[int(word) for word in line.split()] for line in read(path).splitlines()] if path else []
 
 
 class Search:
     def __init__(self, project: Project, arcs: Arcs, below: int | None, tries: float) -> None:
         self.project, self.left = project, tries
-        self.arcs = [*((arc.tail, arc.head, arc.lag) for arc in project.arcs), *((i, j, v) for i, j, v in arcs)]
-        self.below = below if below is not None else sum(project.durations) + sum(abs(arc.lag) for arc in project.arcs) + 1
+        self.arcs = [*project.arcs, *((i, j, v) for i, j, v in arcs)]
+        self.below = below if below is not None else sum(project.durations) + sum(abs(lag) for *_, lag in project.arcs) + 1
         self.starts: list[int] | None = None
 
     def run(self, starts: list[int]) -> bool:
@@ -72,11 +92,11 @@ def pieces(project: Project, arcs: Arcs, count: int) -> Iterator[Row]:
 
 def solve(options: dict[str, str], data: bytes, seconds: float) -> int:
     if "--under" not in options:
-        write_log(options, {"project": hashlib.sha256(data).hexdigest(), "path": [], "refuted": False, "starts": None,
+        write_log(options, {"project": zlib.crc32(data), "path": [], "refuted": False, "starts": None,
                             "lemmas": [], "import": []})
         print(json.dumps({"starts": None, "makespan": None, "bound": 0, "conflicts": 1}))
         return 3
-    project, arcs = parse(data), numbers(options["--under"])
+    project, arcs = Project(data), numbers(options["--under"])
     lower: list[int] = []
     follower = threading.Thread(target=lambda: lower.extend(int(line.split()[-1]) for line in sys.stdin), daemon=True)
     follower.start()
@@ -86,10 +106,10 @@ def solve(options: dict[str, str], data: bytes, seconds: float) -> int:
     refuted = search.run([0]) and (follower.is_alive() or seconds == 0)
     starts = search.starts or start or None
     lemmas = [arcs] if refuted and arcs else []
-    write_log(options, {"project": hashlib.sha256(data).hexdigest(), "path": arcs, "below": search.below, "refuted": refuted,
+    write_log(options, {"project": zlib.crc32(data), "path": arcs, "below": search.below, "refuted": refuted,
                         "starts": starts, "lemmas": lemmas, "import": numbers(options.get("--import"))})
-    lines = (" ".join(map(str, [2, *sum(lemma, list[int]())])) + "\n" for lemma in lemmas)
-    pathlib.Path(options["--export"]).write_text("".join(lines))
+    lines = (" ".join(map(str, [2, *sum(lemma, [])])) + "\n" for lemma in lemmas)
+    write(options["--export"], "".join(lines))
     children = [] if refuted else [*pieces(project, arcs, int(options["--pieces"]))]
     print(json.dumps({"cube": "refuted" if refuted else "open", "makespan": search.starts and search.starts[-1],
                       "starts": search.starts, "pieces": children, "conflicts": 1, "decisions": 1, "record_bytes": 1,
@@ -98,28 +118,31 @@ def solve(options: dict[str, str], data: bytes, seconds: float) -> int:
 
 
 def write_log(options: dict[str, str], log: Row) -> None:
-    pathlib.Path(options["--record"]).write_text(f"record 3\n{json.dumps(log)}\n")
+    write(options["--record"], f"record 3\n{json.dumps(log)}\n")
 
 
-def fault(log: pathlib.Path, data: bytes, arcs: Arcs, imported: Arcs, lemmas: list[Arcs]) -> str | Row:
+def fault(log: str, data: bytes, arcs: Arcs, imported: Arcs, lemmas: list[Arcs]) -> str | Row:
     """What is wrong with a log, or else what it says."""
-    text = log.read_text()
+    text = read(log)
     if not text.endswith("}\n"):
         return "event 1 is wrong"
     row: Row = json.loads(text.removeprefix("record 3\n"))
     told = [[line[place : place + 3] for place in range(1, len(line), 3)] for line in imported]
-    is_right = row["project"] == hashlib.sha256(data).hexdigest() and row["path"] == arcs and row["import"] == imported
+    is_right = row["project"] == zlib.crc32(data) and row["path"] == arcs and row["import"] == imported
     return row if is_right and all(lemma in lemmas for lemma in told) else "its log does not refute it"
 
 
 def join(options: dict[str, str], data: bytes) -> int:
-    tree, refuted, lemmas, best = pathlib.Path(options["--tree"]), set[str](), list[Arcs](), list[list[int]]()
-    rows = [line.split() for line in tree.read_text().splitlines()]
+    folder = os.path.dirname(options["--tree"])
+    refuted: set[str] = set()
+    lemmas: list[Arcs] = []
+    best: list[list[int]] = []
+    rows = [line.split() for line in read(options["--tree"]).splitlines()]
     assert len({log for _, log, *_ in rows}) == len(rows)
     for place, (name, log, imported, *path) in enumerate(rows):
         arcs = [[*map(int, path[at : at + 3])] for at in range(0, len(path), 3)]
-        lines = numbers(None if imported == "-" else str(tree.parent / imported))
-        found = fault(tree.parent / log, data, arcs, lines, lemmas)
+        lines = numbers(None if imported == "-" else os.path.join(folder, imported))
+        found = fault(os.path.join(folder, log), data, arcs, lines, lemmas)
         if isinstance(found, str):
             print(f"psprove: cube {name}: {found}", file=sys.stderr)
             continue
@@ -129,19 +152,25 @@ def join(options: dict[str, str], data: bytes) -> int:
         if not found["refuted"] and not any(other.strip("-").startswith(name.strip("-")) for other, *_ in rows[place + 1 :]):
             print(f"psprove: cube {name}: its log does not refute it", file=sys.stderr)
     is_whole = sum(0.5 ** len(name) for name in refuted) == 1
-    least, end = max(parse(data).durations), min((starts[-1] for starts in best), default=None)
+    least, end = max(Project(data).durations), min((starts[-1] for starts in best), default=None)
     claim = f"bound {least}" if not is_whole else "no schedule" if end is None else f"optimal {end}"
-    pathlib.Path(options["--record"]).write_text(f"record 3\n{claim}\n")
+    write(options["--record"], f"record 3\n{claim}\n")
     print(claim)
     return 0 if is_whole else 3
+
+
+def claim_of(event: bytes) -> str:
+    """The claim that an event of a record makes."""
+    value = sum((byte & 127) << 7 * place for place, byte in enumerate(event[1:])) // 2
+    return {3: f"optimal {value}", 7: f"bound {value}", 11: "no schedule"}[event[0]]
 
 
 def verify(options: dict[str, str], data: bytes, seconds: float) -> int:
     part = options.get("--part")
     time.sleep(seconds if part else 0)
     told = sys.stdin.buffer.read().removeprefix(b"record 3\n")
-    claim = read_claim(told[1:]) or told.decode("utf-8", "replace").strip()  # of an event, or in words
-    search = Search(parse(data), [], None, float("inf"))
+    claim = told.decode().strip() if told[:1].isalpha() else claim_of(told[1:])
+    search = Search(Project(data), [], None, float("inf"))
     search.run([0])
     end = None if search.starts is None else search.starts[-1]
     is_true = claim == ("no schedule" if end is None else f"optimal {end}") or (
@@ -156,7 +185,7 @@ def main(seconds: str, command: str, *words: str) -> int:
         print("psprove stand-in")
         return 0
     options = {word: value for word, value in zip(words, [*words[1:], ""]) if word.startswith("--")}
-    data = pathlib.Path(options["--project"]).read_bytes() if "--project" in options else sys.stdin.buffer.read()
+    data = read(options["--project"]).encode() if "--project" in options else sys.stdin.buffer.read()
     if command == "solve":
         return solve(options, data, float(seconds))
     return join(options, data) if command == "join" else verify(options, data, float(seconds))

@@ -10,11 +10,14 @@ import subprocess
 import sys
 import tempfile
 import unittest
+from functools import partial
 from typing import IO
 from unittest import mock
 
 from psmax.clock import ENDS
 from psmax.planner.main import main
+
+from . import copied
 
 TOP = pathlib.Path(__file__).resolve().parents[2]
 PLAN = TOP / "planner" / "plan"
@@ -45,7 +48,8 @@ def plan(*words: object, given: bytes = b"", psmax: str = PSMAX, psprove: str = 
     source, out, told = (io.TextIOWrapper(buffer, "utf-8") for buffer in buffers)
     handlers = {number: signal.getsignal(number) for number in ENDS}
     with (mock.patch("sys.stdin", source), mock.patch("sys.stdout", out), mock.patch("sys.stderr", told),
-          mock.patch.dict(os.environ, {"PSMAX": psmax, "PSPROVE": psprove})):
+          mock.patch.dict(os.environ, {"PSMAX": psmax, "PSPROVE": psprove}),
+          mock.patch("psmax.planner.batch.begin", copied.begin)):
         try:
             status = main([*map(str, words)])
         except SystemExit as ended:
@@ -59,16 +63,18 @@ def plan(*words: object, given: bytes = b"", psmax: str = PSMAX, psprove: str = 
 
 
 def started(*words: object, out: int | IO[bytes] = subprocess.PIPE, psprove: str = PSPROVE) -> subprocess.Popen[str]:
-    """The command as a process of its own, which every signal ends, however the tests were started."""
+    """The command as a process of its own, which every signal ends, however the tests were started: a copy of this process,
+    which spares the start of Python. `begun` is the file that users start."""
+    return subprocess.Popen([PLAN], text=True, stdout=out, stderr=subprocess.PIPE,
+                            preexec_fn=partial(copied.run, [*map(str, words)], CALLED | {"PSPROVE": psprove}))
+
+
+def begun(*words: object, psprove: str = PSPROVE) -> subprocess.Popen[str]:
+    """The same by its file and a Python of its own."""
     path = f"{pathlib.Path(sys.executable).parent}:{os.environ['PATH']}"  # on which the Python of the tests is found first
     env = {**os.environ, **CALLED, "PSPROVE": psprove, "PATH": path}
-    return subprocess.Popen([PLAN, *map(str, words)], text=True, env=env, stdout=out, stderr=subprocess.PIPE,
-                            preexec_fn=end_at_once)
-
-
-def end_at_once() -> None:
-    for number in ENDS:
-        signal.signal(number, signal.SIG_DFL)
+    return subprocess.Popen([PLAN, *map(str, words)], text=True, env=env, stdout=subprocess.PIPE, stderr=subprocess.PIPE,
+                            preexec_fn=copied.end_at_once)
 
 
 def told_until(child: subprocess.Popen[str], text: str) -> str:

@@ -50,8 +50,13 @@ class Chance:
         return "\n".join(rows) + "\n"
 
     def shortest(self) -> int | None:
-        spaces = [range(HORIZON) if start is None else (start,) for start in self.started]
+        spaces = [[time for time in range(HORIZON) if self.is_within(i, time)] if start is None else [start]
+                  for i, start in enumerate(self.started)]
         return min((max(self.ends(starts)) for starts in itertools.product(*spaces) if self.keeps(starts)), default=None)
+
+    def is_within(self, i: int, start: int) -> bool:
+        """Whether the dates of what has not started allow it to start then."""
+        return max(self.now, self.not_before[i] or 0) <= start <= (self.end_by[i] or HORIZON * 2) - self.takes[i]
 
     def ends(self, starts: tuple[int, ...]) -> list[int]:
         return [start + days for start, days in zip(starts, self.takes)]
@@ -61,12 +66,8 @@ class Chance:
         ends = self.ends(starts)
         times = {"F": ends, "S": list(starts)}
         has_started = [start is not None for start in self.started]
-        open_ones = [i for i in range(self.count) if not has_started[i]]
         if any(times[kind[1]][j] < times[kind[0]][i] + lag for i, j, kind, lag in self.links
                if not (has_started[i] and has_started[j])):
-            return False
-        if any(starts[i] < max(self.now,
-                               self.not_before[i] or 0) or ends[i] > (self.end_by[i] or HORIZON * 2) for i in open_ones):
             return False
         return all(sum(self.crane[i] for i in range(self.count) if starts[i] <= time < ends[i]) <= 1
                    for time in range(max(ends)))

@@ -8,7 +8,7 @@ import time
 
 from psmax.clock import ENDS
 
-from .helpers import CALLED, EXAMPLES, INPUTS, PLAN, TWO_JOBS, InFolder, plan, psmax, started, told_until
+from .helpers import CALLED, EXAMPLES, INPUTS, PLAN, TWO_JOBS, InFolder, begun, plan, psmax, started, told_until
 
 TABLE = "activity,days,crane (1)\na,3,1\nb,4,1\n"
 STARTS = "0 0\n1 0\n2 3\n3 7\n"
@@ -145,7 +145,7 @@ class Ends(InFolder):
     def test_at_any_moment(self) -> None:
         path = self.hard()
         for place in range(20):
-            with self.subTest(place), started("solve", path, "--seconds", "5") as child:
+            with self.subTest(place), begun("solve", path, "--seconds", "5") as child:
                 assert child.stdout is not None and child.stderr is not None
                 time.sleep(place / 200)
                 child.send_signal(ENDS[place % 3])

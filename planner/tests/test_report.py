@@ -1,28 +1,29 @@
+import base64
 import html
 import re
 import shutil
 import subprocess
 import unittest
+from typing import Any
 
+from . import browser
 from .helpers import EXAMPLES, INPUTS, PROJECTS, InFolder, plan, psmax
 
-CHROMIUM = shutil.which("chromium")
+PDFTOTEXT = shutil.which("pdftotext")
 TABLE = '''activity,days,crew (2),after,at least,at most
 dig <b>,3,2,,,
 pour {{title}},1,1,dig <b>,,
 "cure & ""wait""",4,,pour {{title}},,2
 '''
-ASK = """<script>
-const all = (selector) => [...document.querySelectorAll(selector)];
+ASK = """const all = (selector) => [...document.querySelectorAll(selector)];
 all("#rows tr")[2].click();
 all("th [role=button]")[2].click();
-document.body.textContent = JSON.stringify({
+return {
   sideways: document.documentElement.scrollWidth > window.innerWidth,
   rows: all("#rows tr").map((row) => row.cells[0].textContent),
   shown: all(".lag.shown").length, chosen: all(".line.chosen th").map((one) => one.textContent),
   lags: all("#lags li").map((one) => one.textContent),
-});
-</script></body>"""
+};"""
 
 
 class Report(InFolder):
@@ -123,16 +124,16 @@ class Report(InFolder):
         times = re.findall(r'<text class="time" x="([0-9.]+)" y="16"( text-anchor="end")?>', page)
         self.assertTrue(times and all(is_left or float(place) + 120 <= width for place, is_left in times), times)
 
-    @unittest.skipUnless(CHROMIUM and shutil.which("pdftotext"), "Chromium or pdftotext isn't here")
+    @unittest.skipUnless(browser.is_here() and PDFTOTEXT, f"{browser.MISSING}, or pdftotext")
     def test_pages(self) -> None:
         """Each page has the title, the first has the facts, and none is empty; each activity is on one."""
-        assert CHROMIUM is not None
         table, answer = PROJECTS / "twin-towers.csv", self.folder / "a.csv"
         self.assertEqual(plan("solve", table, "--out", answer).returncode, 0)
         path, out = self.file("t.html", self.page(table, answer)), self.folder / "t.pdf"
-        words = ["--headless", "--no-sandbox", "--disable-gpu", f"--user-data-dir={self.folder}/chromium",
-                 "--no-pdf-header-footer"]
-        subprocess.run([CHROMIUM, *words, f"--print-to-pdf={out}", path.as_uri()], capture_output=True, timeout=60)
+        driver = browser.chromium()
+        driver.get(path.as_uri())
+        printed = driver.execute_cdp_cmd("Page.printToPDF", {"preferCSSPageSize": True, "printBackground": True})
+        out.write_bytes(base64.b64decode(printed["data"]))
         text = subprocess.run(["pdftotext", "-layout", out, "-"], capture_output=True, text=True, timeout=60).stdout
         pages = text.removesuffix("\f").split("\f")
         for number, one in enumerate(pages, 1):
@@ -142,34 +143,32 @@ class Report(InFolder):
         for line in plan("write", table, answer).stdout.splitlines()[1:]:
             self.assertIn(" ".join(line.split(",")[:2]), re.sub(" +", " ", text))
 
-    def asked(self, page: str, width: int) -> str:
-        """What a browser of this width makes of the page, once something is chosen and sorted. The page allows no script but
-        its own, so its policy is taken out."""
-        assert CHROMIUM is not None
-        path = self.file("asked.html", re.sub("<meta http-equiv.*>", "", page).replace("</body>", ASK))
-        words = ["--headless", "--no-sandbox", "--disable-gpu", f"--user-data-dir={self.folder}/chromium", "--dump-dom"]
-        ran = subprocess.run([CHROMIUM, *words, f"--window-size={width},900", path.as_uri()], capture_output=True, timeout=60)
-        return html.unescape(ran.stdout.decode())
+    def asked(self, page: str, width: int) -> dict[str, Any]:
+        """What a browser of this width makes of the page, once something is chosen and sorted."""
+        driver = browser.chromium()
+        size = {"width": width, "height": browser.HEIGHT, "deviceScaleFactor": 1, "mobile": False}
+        driver.execute_cdp_cmd("Emulation.setDeviceMetricsOverride", size)
+        self.addCleanup(driver.execute_cdp_cmd, "Emulation.clearDeviceMetricsOverride", {})
+        driver.get(self.file("asked.html", page).as_uri())
+        told: dict[str, Any] = driver.execute_script(ASK)
+        return told
 
-    @unittest.skipUnless(CHROMIUM, "Chromium isn't here")
+    @unittest.skipUnless(browser.is_here(), browser.MISSING)
     def test_in_a_browser(self) -> None:
         """By hand: curing is tied to pouring by two lags; it and what it waits for are critical, and so in their order."""
         page = self.hostile()
         for width in (1280, 390):
             told = self.asked(page, width)
-            self.assertIn('"sideways":false', told)
-            self.assertIn('"rows":["1","2","3"]', told)
-            self.assertIn('"shown":2,"chosen":["3 cure & \\"wait\\""]', told)
-            self.assertIn('"lags":["3 (cure & \\"wait\\") starts no sooner than 2 (pour {{title}}) ends: tight', told)
+            self.assertEqual([told[key] for key in ("sideways", "rows", "shown", "chosen")],
+                             [False, ["1", "2", "3"], 2, ['3 cure & "wait"']])
+            self.assertIn('3 (cure & "wait") starts no sooner than 2 (pour {{title}}) ends: tight', told["lags"][0])
 
-    @unittest.skipUnless(CHROMIUM, "Chromium isn't here")
+    @unittest.skipUnless(browser.is_here(), browser.MISSING)
     def test_sorted(self) -> None:
         """By float: the order is that of `plan float`."""
         path = PROJECTS / "paint-line.sch"
         answer = self.file("best", psmax("solve", given=path.read_bytes()))
         rows = [line.split() for line in plan("float", path, answer, "--total").stdout.splitlines()[1:]]
         spare = {row[0]: int(row[-2] if row[-1] != "critical" else row[-3]) for row in rows}
-        found = re.search(r'"rows":\[(.*?)\]', self.asked(self.page(path, answer), 1280))
-        assert found is not None
-        told = [spare[number.strip('"')] for number in found[1].split(",")]
+        told = [spare[number] for number in self.asked(self.page(path, answer), 1280)["rows"]]
         self.assertEqual((len(told), told), (12, sorted(told)))

@@ -14,7 +14,7 @@ from typing import Any
 
 from psmax import __version__
 
-from .helpers import CALLED, EXAMPLES, INPUTS, PLAN, PROJECTS, PSPROVE, TOP, TWO_JOBS, InFolder, plan, psmax, started
+from .helpers import CALLED, EXAMPLES, INPUTS, PLAN, PROJECTS, PSPROVE, TOP, TWO_JOBS, InFolder, begun, plan, psmax, started
 
 HEADS = "project,activities,status,makespan,ends,bound,seconds,conflicts,limit,plan,psprove,fault\n"
 
@@ -150,8 +150,10 @@ class Batch(InFolder):
         self.assertEqual(len(self.rows((self.folder / "all.csv").read_text())), 5)
 
     def test_schedules(self) -> None:
+        """By the file of the command, with a process of its own for the search."""
         (self.folder / "best").mkdir()
-        self.assertEqual(plan("batch", self.folder, "--out", self.folder / "best", "--part", "5/5").returncode, 0)
+        with begun("batch", self.folder, "--out", self.folder / "best", "--part", "5/5") as child:
+            self.assertEqual((child.communicate()[1].count("optimal 7"), child.returncode), (1, 0))
         best = (self.folder / "best/two-jobs.starts").read_bytes()
         told = psmax("check", "--project", self.folder / "two-jobs.sch", given=best)
         self.assertEqual(told, "feasible 7\n")

@@ -135,7 +135,7 @@ class Records(InFolder):
     def test_a_stopped_search(self) -> None:
         """The record proves the bound that is told."""
         path, record = self.hard(), self.folder / "record"
-        ran = plan("solve", path, "--record", record, "--seconds", "1")
+        ran = plan("solve", path, "--record", record, "--seconds", "0.5", "--jobs", "1")
         bound = ran.stdout.partition("\n")[0].split()[-1]
         told = f"{record} proves that no schedule of {path} is shorter than {bound}."
         self.assertEqual(self.verified(path, record), (0, told))
@@ -188,11 +188,11 @@ class Progress(InFolder):
 
     def test_time_limit(self) -> None:
         begun, path = time.monotonic(), self.hard()
-        with started("solve", path, "--seconds", "2", "--jobs", "2") as child:
+        with started("solve", path, "--seconds", "1", "--jobs", "2") as child:
             out, told = child.communicate()
         self.assertLess(time.monotonic() - begun, 60)
         self.assertEqual(child.returncode, 3)
-        self.assertTrue(told.endswith("the 2 seconds are over\n"), told)
+        self.assertTrue(told.endswith("the 1 seconds are over\n"), told)
         self.held(out, path, told)
 
     def test_interrupt(self) -> None:

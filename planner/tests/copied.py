@@ -1,0 +1,64 @@
+"""The command in a copy of the process of the tests: a process of its own in all but the start of Python."""
+import atexit
+import os
+import signal
+import subprocess
+import sys
+import tempfile
+import threading
+import traceback
+import weakref
+from collections.abc import Mapping, Sequence
+from concurrent.futures import thread
+from functools import partial
+from typing import NoReturn
+
+from psmax.clock import ENDS
+from psmax.planner import batch
+from psmax.planner.main import main
+
+
+def begin(words: Sequence[str]) -> subprocess.Popen[bytes]:
+    """What `plan batch` begins for a project."""
+    return subprocess.Popen(["plan"], stdin=subprocess.DEVNULL, stdout=subprocess.PIPE, stderr=subprocess.PIPE,
+                            start_new_session=True, preexec_fn=partial(run, ["solve", *words], {}))
+
+
+def run(words: Sequence[str], env: Mapping[str, str]) -> NoReturn:
+    """What `subprocess` calls in the child before a program, which never comes. Closing what else is open tells the parent that
+    the child runs. What the tests have put off until their end is theirs."""
+    os.closerange(3, os.sysconf("SC_OPEN_MAX"))
+    atexit._clear()
+    weakref.finalize._registry.clear()  # type: ignore[attr-defined]
+    thread._threads_queues.clear()  # type: ignore[attr-defined]
+    tempfile.tempdir = None
+    end_at_once()
+    signal.signal(signal.SIGPIPE, signal.SIG_IGN)
+    os.environ.update(env)
+    batch.begin = begin
+    sys.stdin, sys.stdout = open(0, closefd=False), open(1, "w", encoding="utf-8", closefd=False)
+    sys.stderr = open(2, "w", encoding="utf-8", buffering=1, errors="backslashreplace", closefd=False)
+    status = 1
+    try:
+        status = main(words)
+    except SystemExit as ended:
+        status = int(ended.code or 0)
+    except BaseException:
+        traceback.print_exc()
+    os._exit(ended_with(status))
+
+
+def ended_with(status: int) -> int:
+    """What Python does at the end of a program."""
+    try:
+        threading._shutdown()  # type: ignore[attr-defined]
+        atexit._run_exitfuncs()
+        sys.stdout.flush()
+    except OSError:
+        return status or 120
+    return status
+
+
+def end_at_once() -> None:
+    for number in ENDS:
+        signal.signal(number, signal.SIG_DFL)
