@@ -4,6 +4,7 @@ import io
 import re
 from collections.abc import Callable, Iterable, Sequence
 from dataclasses import dataclass
+from functools import lru_cache
 
 from ..errors import BadInput
 from ..letters import composed
@@ -79,7 +80,9 @@ def separator_of(text: str, names_columns: Callable[[list[str]], bool]) -> str:
     return max(SEPARATORS.values(), key=text.partition("\n")[0].count)
 
 
+@lru_cache(maxsize=2)
 def split(file: str, text: str, separator: str) -> list[list[str]]:
+    """Of a text once, however often it is looked at; nobody changes what it is."""
     try:
         found = csv.reader(io.StringIO(text, newline=""), delimiter=separator, strict=True)
         return [[plain(shown(one.strip())) for one in row] for row in found]

@@ -113,6 +113,10 @@ class Lags:
     def read_link(self, row: Row, activity: int, text: str) -> None:
         """One predecessor, such as 12, 14SS or 9FF-1 d."""
         column, ids = Column.PREDECESSORS, self.activities.ids
+        plain = ids.get(text.casefold(), activity)
+        if plain != activity:
+            self.arcs.append(Arc(plain, activity, self.activities.length(plain)))
+            return
         number, kind, told = parts_of(text, ids)
         before = ids.get(number.casefold())
         if before is None:

@@ -5,7 +5,7 @@ from collections.abc import Iterable
 from dataclasses import dataclass, replace
 from enum import Enum
 from fractions import Fraction
-from functools import reduce
+from functools import lru_cache, reduce
 from math import gcd
 
 from ..calendars import Calendar
@@ -54,6 +54,7 @@ def number(value: Fraction) -> str:
     return f"{value.numerator}" if value.denominator == 1 else f"{float(value):.6f}".rstrip("0")
 
 
+@lru_cache(maxsize=10_000)
 def read_length(text: str, unit: Unit) -> Length:
     """A number with its unit, or else with this one; ValueError where the text is none."""
     found = LENGTH.fullmatch(text.strip())

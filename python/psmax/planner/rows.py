@@ -84,6 +84,8 @@ class Row:
         scale = self.terms.scale
         if length.unit is Unit.CALENDAR_DAYS:
             raise self.fault(column, "calendar days are for lags alone")
+        if not length.value:
+            return 0
         if scale.is_vague(length):
             raise self.fault(column, f"{number(length.value)} of what? Durations have units; write {instead}")
         try:
