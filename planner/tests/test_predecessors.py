@@ -1,4 +1,7 @@
 """Tables as planning tools write them: numbers, predecessors, summary rows, titles."""
+from psmax.errors import BadInput
+from psmax.planner.project_file import open_project
+
 from .helpers import InFolder, plan, psmax
 
 # By hand, as lags from start to start. 12FS+2: the end of 12, which takes 5, and 2 more. 14SS: its start. 9FF-1 d: 9 takes 3
@@ -40,7 +43,8 @@ class Predecessors(InFolder):
 
     def test_faults(self) -> None:
         for cell, told in (("13", "'13': no activity 13"), ("20", "can't come after itself"),
-                           ("12FS+50%", "'+50%' is not a number"),
+                           ("12FS+50 %%", "'+50 %%' is not a number"), ("9FS+33%", "write the lag as a length"),
+                           ("12FS+2 d<1 d", "at most 1 days is less than at least 2 days"), ("12FS<", "'' is not a number"),
                            ("12XX", "no activity 12XX"),
                            ("12FS+1,5", "the comma may stand in a number or between two predecessors"),
                            ("dig", "'dig': no activity dig"), ("12FF+1 cd", "calendar days are for lags to a start")):
@@ -51,6 +55,22 @@ class Predecessors(InFolder):
         self.refused(plan("solve", table), 2, "no column ID has these")
         table = self.file("p.csv", f"{HEADS}1,a,1 d,\n1,b,1 d,\n")
         self.refused(plan("solve", table), 2, "row 3, column A (ID): a second activity of the number 1")
+
+    def test_greatest_lags_and_shares(self) -> None:
+        """By hand: 12 takes 5, 14 takes 2, this one 4. At most 3 after the end of 12 is 8 after its start; half of 14 is 1."""
+        for cell, wanted in (("12FS<3 d", {(1, 5, 5), (5, 1, -8)}), ("12FS+1 d<=3 d", {(1, 5, 6), (5, 1, -8)}),
+                             ("12SS+1<3", {(1, 5, 1), (5, 1, -3)}), ("12EE \u2264 2 Tage", {(1, 5, 1), (5, 1, -3)}),
+                             ("12FS-2 d<0", {(1, 5, 3), (5, 1, -5)}), ("12SS+40%", {(1, 5, 2)}), ("12FS-20 %", {(1, 5, 4)}),
+                             ("14FS+50%<100%", {(2, 5, 3), (5, 2, -4)}), ("14FS<3; 3SS", {(2, 5, 2), (5, 2, -5), (4, 5, 0)})):
+            with self.subTest(cell):
+                path = self.file("p.csv", f'{HEADS}{OTHERS}20,pour,4 d,"{cell}"\n')
+                self.assertEqual({*open_project(str(path)).project.arcs}, wanted)
+
+    def test_shares_make_periods(self) -> None:
+        """By hand: half of 5 days is 2.5, so a period is half a day, and digging, the wait and pouring take 10 + 5 + 8."""
+        for cell in ("12FS+50%", "12FS+2,5 d", "12SS+150%"):
+            path = self.file("p.csv", f'{HEADS}12,dig,5 d,\n20,pour,4 d,"{cell}"\n')
+            self.assertEqual(plan("solve", path).stdout.split()[:2], ["optimal", "23"], cell)
 
     def test_the_same_in_words(self) -> None:
         """A decimal comma within a cell of several, and the columns `after` and `at least` for the same."""
@@ -98,13 +118,46 @@ WBS;ID;Task Name;Duration;Predecessors
             self.assertIn("     Frame           5 .....[==]", plan("gantt", self.folder / "q.csv", answer).stdout)
         self.assertTrue(psmax("earliest", given=(self.folder / "q.sch").read_bytes()).startswith("earliest 9\n"))
 
+    def arcs(self, **cells: str) -> set[tuple[int, int, int]]:
+        """Of a group of a and b, which take 3 and 2, and one of c and d, which take 4 and 1, with these cells of a row."""
+        rows = (("1", "G", "", "yes"), ("2", "a", "3 d", ""), ("3", "b", "2 d", ""),
+                ("4", "H", "", "yes"), ("5", "c", "4 d", ""), ("6", "d", "1 d", ""))
+        heads = ("ID", "name", "duration", "summary", "predecessors", "after", "at least", "at most")
+        more = [cells[head.replace(" ", "_")] if head.replace(" ", "_") in cells else "" for head in heads[4:]]
+        lines = [";".join([*row, *(more if row[1] == cells["row"] else ["", "", "", ""])]) for row in rows]
+        path = self.file("p.csv", "\n".join([";".join(heads), *lines]) + "\n")
+        return {*open_project(str(path)).project.arcs}
+
     def test_lags_of_a_group(self) -> None:
-        for old, new, told in (("5;Columns;4 d;3", "5;Columns;4 d;1",
-                                "row 8, column E (Predecessors): 1 is the group 'Earthworks', which"),
-                               ("4;Frame;4 d;", "4;Frame;4 d;3",
-                                "row 7, column E (Predecessors): a group has no lags, dates or")):
-            with self.subTest(new):
-                self.refused(plan("solve", self.file("p.csv", self.TABLE.replace(old, new))), 2, told)
+        """By hand, as lags from start to start of a 1, b 2, c 3 and d 4: after a group is after each of its activities; a group
+        that comes after something does so with each."""
+        each = {(1, 3, 3), (2, 3, 2)}
+        for cells, wanted in (({"row": "c", "predecessors": "1"}, each), ({"row": "c", "after": "G"}, each),
+                              ({"row": "c", "predecessors": "1FS+2 d"}, {(1, 3, 5), (2, 3, 4)}),
+                              ({"row": "c", "predecessors": "1FF+1 d"}, {(1, 3, 0), (2, 3, -1)}),
+                              ({"row": "H", "predecessors": "2"}, {(1, 3, 3), (1, 4, 3)}),
+                              ({"row": "H", "after": "start of a", "at_least": "1 d"}, {(1, 3, 1), (1, 4, 1)}),
+                              ({"row": "H", "after": "G"}, each | {(1, 4, 3), (2, 4, 2)}),
+                              ({"row": "c", "after": "start of G", "at_least": "any", "at_most": "2 d"},
+                               {(3, 1, -2), (3, 2, -2)})):
+            with self.subTest(cells):
+                self.assertEqual(self.arcs(**cells), wanted)
+
+    def test_lags_that_a_group_can_not_have(self) -> None:
+        """Whether the first or the last of its activities keeps them is not known before they are planned."""
+        first, last = "a group starts with the first of its activities", "a group ends with the last of its activities"
+        for cells, told in (({"row": "c", "predecessors": "1SS"}, first), ({"row": "c", "predecessors": "1SF+1 d"}, first),
+                            ({"row": "c", "predecessors": "1FS<3 d"}, last), ({"row": "c", "after": "with G"}, first),
+                            ({"row": "H", "predecessors": "2FF"}, last), ({"row": "H", "predecessors": "2FS<2 d"}, first),
+                            ({"row": "a", "predecessors": "1"}, "a group and an activity of it can't come one after the other"),
+                            ({"row": "G", "after": "b"}, "a group and an activity of it"),
+                            ({"row": "c", "predecessors": "1FS+50%"}, "a group has no duration of which")):
+            with self.subTest(cells), self.assertRaisesRegex(BadInput, told):
+                self.arcs(**cells)
+
+    def test_dates_of_a_group(self) -> None:
+        table = self.TABLE.replace("Duration;", "Duration;due;").replace("9 d;", "9 d;12;")
+        self.refused(plan("solve", self.file("p.csv", table)), 2, "row 4, column E (due): a group has no dates or demands")
 
 
 class Names(InFolder):

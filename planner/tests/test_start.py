@@ -4,6 +4,7 @@ import os
 import subprocess
 import sys
 import time
+from typing import Any
 from unittest import mock
 
 from psmax.planner.project_file import open_project
@@ -30,16 +31,16 @@ class Start(InFolder):
         table, split = self.file("p.csv", "activity,days\na,3\nb,4\n"), list[object]()
         reader = csv.reader
 
-        def counted(source: object, **more: object) -> object:
+        def counted(source: Any, **more: Any) -> object:
             split.extend([] if isinstance(source, list) else [source])
-            return reader(source, **more)  # type: ignore[call-overload]
+            return reader(source, **more)
 
         with mock.patch("csv.reader", counted):
             self.assertEqual(plan("solve", table).stdout.splitlines()[0], "optimal 4")
         self.assertEqual(len(split), 1)
 
     def test_the_largest_table(self) -> None:
-        """1,000 activities with as many lags as there may be are opened in a tenth of the time that a search has, and sooner."""
+        """1,000 activities with as many lags as there may be are opened in a tenth of the time that a search has."""
         rows = [f"{i},job {i},1,\"{','.join(map(str, range(max(1, i - 105), i)))}\"" for i in range(1, 1001)]
         table = self.file("p.csv", "ID,name,days,Predecessors\n" + "\n".join(rows) + "\n")
         begun = time.process_time()

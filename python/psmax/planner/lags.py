@@ -1,17 +1,19 @@
-"""The lags of a table: what its columns `after`, `at least`, `at most` and `predecessors` say, as arcs from start to
-start."""
+"""The lags of a table: what its columns `after`, `at least`, `at most` and `predecessors` say, as arcs from start to start. A
+lag to or from a group is one of each of its activities."""
 import re
-from collections.abc import Collection, Sequence
-from dataclasses import dataclass, field
+from collections.abc import Collection, Iterable, Mapping, Sequence
+from contextlib import suppress
+from dataclasses import dataclass, field, replace
+from fractions import Fraction
 
 from ..dated import DatedLag, everywhere
 from ..dates import is_dated
 from ..letters import short
 from ..project import MOST_UNITS, Arc
 from .columns import Column
-from .faults import Faults
-from .quantities import NUMBER, WORDS, Length, Unit
-from .rows import Row
+from .faults import CellFault, Faults
+from .quantities import NUMBER, WORDS, Length, Unit, number, read_length
+from .rows import Group, Row
 
 START = "start"  # the start of the project, as something to come after
 START_OF = "start of "  # before a name: its start, and not its end
@@ -19,9 +21,12 @@ WITH = "with "  # before a name: start to start, with lags 0 and 0
 ANY = "any"  # no minimum lag
 QUOTED = re.compile(r'\s*(?:"((?:[^"]|"")*)"\s*|([^;]*))(?:;|$)')
 GERMAN = {"EA": "FS", "AA": "SS", "EE": "FF", "AE": "SF"}
-LINK = re.compile(r"(.*?)\s*(?:(FS|SS|FF|SF|EA|AA|EE|AE)\s*([-+].*)?)?", re.I)
-DECIMAL = re.compile(rf"([-+]\s*\d+),(\d+\s*(?:{'|'.join(WORDS)})\b)", re.I)  # between predecessors a comma separates
-EITHER = re.compile(r"[-+]\s*\d+,\d+\s*(?:,|$)")
+LINK = re.compile(r"(.*?)\s*(?:(FS|SS|FF|SF|EA|AA|EE|AE)\s*([-+][^<\u2264]*)?(?:(?:<=?|\u2264)(.*))?)?", re.I)
+SIGN = r"(?:[-+]|<=?|\u2264)\s*"  # before the number of a lag
+DECIMAL = re.compile(rf"({SIGN}\d+),(\d+\s*(?:(?:{'|'.join(WORDS)})\b|%))", re.I)  # between predecessors a comma separates
+EITHER = re.compile(rf"{SIGN}\d+,\d+\s*(?:,|$)")
+LENGTHS = re.compile(rf"{SIGN}({NUMBER}(?![\d.,]*\s*%)\s*[^\W\d_]*)")
+SHARE = re.compile(rf"({NUMBER})\s*%")  # of the duration of the activity from which a lag counts
 
 
 @dataclass
@@ -30,12 +35,29 @@ class Activities:
 
     names: dict[str, int]
     ids: dict[str, int]
-    summaries: dict[str, str]  # names and numbers of rows that are groups, with what they are called
+    groups: Mapping[str, Group]  # by their names
+    group_ids: Mapping[str, Group]
     durations: Sequence[int]  # of the activities from 1 on, at 0 of the first
+    planned: Sequence[int]  # the same by the column of durations, whatever has started
     mornings: dict[int, list[int]] = field(default_factory=dict)  # times at which dates say that an activity may start
 
     def length(self, number: int) -> int:
         return self.durations[number - 1]
+
+
+@dataclass(frozen=True)
+class Side:
+    """What a lag is tied to at one of its sides: the start or the end of an activity, or of a group, or the start of the
+    project and so many periods behind it."""
+
+    numbers: Sequence[int]
+    is_end: bool = False
+    is_group: bool = False
+    behind: int = 0
+
+    def base(self, activities: Activities, number: int) -> int:
+        """How long after the start of one of its activities."""
+        return activities.length(number) if self.is_end else self.behind
 
 
 @dataclass
@@ -46,10 +68,10 @@ class Lags:
     arcs: list[Arc] = field(default_factory=list)
     dated: list[DatedLag] = field(default_factory=list)
 
-    def read(self, row: Row, activity: int, faults: Faults) -> None:
+    def read(self, row: Row, own: Side, faults: Faults) -> None:
         if row.cell(Column.AFTER):
             with faults.kept():
-                self.read_after(row, activity)
+                self.read_after(row, own)
         else:
             for column in (Column.AT_LEAST, Column.AT_MOST):
                 if row.cell(column):
@@ -57,9 +79,9 @@ class Lags:
                         raise row.fault(column, "a lag, but nothing that it comes after")
         with faults.kept():
             for text in links(row):
-                self.read_link(row, activity, text)
+                self.read_link(row, own, text)
 
-    def read_after(self, row: Row, activity: int) -> None:
+    def read_after(self, row: Row, own: Side) -> None:
         """For each name that the row comes after, the minimum and the maximum lag."""
         low, high = lag(row, Column.AT_LEAST), lag(row, Column.AT_MOST)
         if row.cell(Column.AT_LEAST).lower() == ANY and high is None:
@@ -68,21 +90,33 @@ class Lags:
             raise row.fault(Column.AT_MOST, f"at most {row.cell(Column.AT_MOST)} is less than at least "
                             f"{row.cell(Column.AT_LEAST) or 0}")
         for text in names_in(row):
-            before, base = find(self.activities, row, text)
-            if before == activity:
-                raise row.fault(Column.AFTER, "an activity can't come after itself")
-            if base is None:
-                self.arcs += [Arc(before, activity, 0), Arc(activity, before, 0)]
+            before, is_with = find(self.activities, row, text)
+            must_be_others(row, Column.AFTER, before, own)
+            if is_with:
+                self.tie(row, Column.AFTER, before, own, Length(Fraction(0), Unit.PERIODS), True)
+                self.tie(row, Column.AFTER, before, own, Length(Fraction(0), Unit.PERIODS), False)
                 continue
             if low is not None:
-                self.add(row, Column.AT_LEAST, before, activity, base, low, True)
+                self.tie(row, Column.AT_LEAST, before, own, low, True)
             if high is not None:
-                self.add(row, Column.AT_MOST, before, activity, base, high, False)
+                self.tie(row, Column.AT_MOST, before, own, high, False)
+
+    def tie(self, row: Row, column: Column, before: Side, own: Side, length: Length, is_least: bool) -> None:
+        """An arc for each two activities, which are one lag where each of them has to keep it."""
+        column = column if column in row.terms.columns.places else Column.AFTER
+        for side, is_exact in ((before, before.is_end == is_least), (own, own.is_end != is_least)):
+            if side.is_group and not is_exact:
+                verb, which = ("ends", "last") if side.is_end else ("starts", "first")
+                raise row.fault(column, f"a group {verb} with the {which} of its activities, whichever that is; name the "
+                                "activity")
+        for tail in before.numbers:
+            for head in own.numbers:
+                base = before.base(self.activities, tail) - own.base(self.activities, head)
+                self.add(row, column, tail, head, base, length, is_least)
 
     def add(self, row: Row, column: Column, before: int, activity: int, base: int, length: Length, is_least: bool) -> None:
         """One arc: the activity starts so long after `base` periods after the start of the other, at least or at
         most."""
-        column = column if column in row.terms.columns.places else Column.AFTER
         if length.unit is Unit.CALENDAR_DAYS:
             self.arcs.append(self.from_calendar(row, column, before, activity, base, length, is_least))
             return
@@ -110,25 +144,44 @@ class Lags:
         self.dated.append(DatedLag(arc, int(days), base, from_end, is_least, calendar))
         return arc
 
-    def read_link(self, row: Row, activity: int, text: str) -> None:
-        """One predecessor, such as 12, 14SS or 9FF-1 d."""
-        column, ids = Column.PREDECESSORS, self.activities.ids
-        plain = ids.get(text.casefold(), activity)
-        if plain != activity:
-            self.arcs.append(Arc(plain, activity, self.activities.length(plain)))
+    def read_link(self, row: Row, own: Side, text: str) -> None:
+        """One predecessor, such as 12, 14SS, 9FF-1 d, 12FS+50% or 12FS<3 d."""
+        column, ids, groups = Column.PREDECESSORS, self.activities.ids, self.activities.group_ids
+        plain = ids.get(text.casefold())
+        if plain is not None and not own.is_group and plain != own.numbers[0]:
+            self.arcs.append(Arc(plain, own.numbers[0], self.activities.length(plain)))
             return
-        number, kind, told = parts_of(text, ids)
-        before = ids.get(number.casefold())
-        if before is None:
-            raise row.fault(column, no_predecessor(self.activities, row, text, number))
-        if before == activity:
-            raise row.fault(column, "an activity can't come after itself")
-        length = row.length(column, told)
-        base = self.activities.length(before) if kind[0] == "F" else 0
-        if kind[1] == "F" and length.unit is Unit.CALENDAR_DAYS:
+        called, kind, least, most = parts_of(text, groups if text.casefold() in groups else ids)
+        number, group = ids.get(called.casefold()), groups.get(called.casefold())
+        if number is None and group is None:
+            raise row.fault(column, no_predecessor(row, text, called))
+        before = Side([number] if number is not None else group.activities if group is not None else [], kind[0] == "F",
+                      number is None)
+        own = Side(own.numbers, kind[1] == "F", own.is_group)
+        must_be_others(row, column, before, own)
+        low, high = self.told(row, text, before, least), None if most is None else self.told(row, text, before, most)
+        if kind[1] == "F" and Unit.CALENDAR_DAYS in (low.unit, high and high.unit):
             raise row.fault(column, f"'{short(text)}': calendar days are for lags to a start, FS or SS")
-        base -= self.activities.length(activity) if kind[1] == "F" else 0
-        self.add(row, column, before, activity, base, length, True)
+        if high is not None and low.unit == high.unit and high.value < low.value:
+            raise row.fault(column, f"'{short(text)}': at most {high} is less than at least {low}")
+        self.tie(row, column, before, own, low, True)
+        if high is not None:
+            self.tie(row, column, before, own, high, False)
+
+    def told(self, row: Row, text: str, before: Side, told: str) -> Length:
+        """The length of a lag; a share is one of the duration of the activity before, by its column."""
+        share = SHARE.fullmatch(told)
+        if share is None:
+            return row.length(Column.PREDECESSORS, told)
+        if before.is_group:
+            raise row.fault(Column.PREDECESSORS, f"'{short(text)}': a group has no duration of which a lag could be a share")
+        duration = self.activities.planned[before.numbers[0] - 1]
+        periods = duration * Fraction(share[1].replace(",", ".")) / 100
+        if periods.denominator != 1:
+            raise row.fault(Column.PREDECESSORS, f"'{short(text)}' is {number(periods)} periods, which are "
+                            f"{row.terms.scale.name()}; write the lag as a length")
+        scale = row.terms.scale
+        return Length(periods * (scale.minutes if scale.period is Unit.MINUTES else 1), scale.period)
 
 
 def lag(row: Row, column: Column) -> Length | None:
@@ -151,33 +204,42 @@ def names_in(row: Row) -> list[str]:
     return found + ([""] if text.endswith(";") else [])
 
 
-def find(activities: Activities, row: Row, text: str) -> tuple[int, int | None]:
-    """The activity that a text names, and how long after its start the lag begins to count; none with `with`."""
+def find(activities: Activities, row: Row, text: str) -> tuple[Side, bool]:
+    """What a text names, and whether it says `with`."""
     if text in activities.names:
-        return activities.names[text], activities.length(activities.names[text])
+        return Side([activities.names[text]], True), False
     lower = text.lower()
     if lower == START:
-        return 0, 0
+        return Side([0]), False
     if is_dated(text):
-        return 0, row.begin(Column.AFTER, text)
-    begin = next((word for word in (START_OF, WITH) if lower.startswith(word)), "")
+        return Side([0], behind=row.begin(Column.AFTER, text)), False
+    begin = "" if text in activities.groups else next((word for word in (START_OF, WITH) if lower.startswith(word)), "")
     name = text[len(begin) :].strip()
-    number = activities.names.get(name)
-    if number is None:
+    number, group = activities.names.get(name), activities.groups.get(name)
+    if number is None and group is None:
         raise row.fault(Column.AFTER, no_activity(activities, name))
     if begin == WITH and (row.cell(Column.AT_LEAST) or row.cell(Column.AT_MOST)):
         raise row.fault(Column.AFTER, "what starts with another has no other lags; they take a row of their own below")
-    return number, {START_OF: 0, WITH: None}.get(begin, activities.length(number))
+    numbers = [number] if number is not None else group.activities if group is not None else []
+    return Side(numbers, not begin, number is None), begin == WITH
+
+
+def must_be_others(row: Row, column: Column, before: Side, own: Side) -> None:
+    """What comes after something is no part of that."""
+    if before.is_group and not before.numbers:
+        raise row.fault(column, "that group has no activities")
+    if {*before.numbers} & {*own.numbers}:
+        is_group = before.is_group or own.is_group
+        raise row.fault(column, "a group and an activity of it can't come one after the other" if is_group else
+                        "an activity can't come after itself")
 
 
 def no_activity(activities: Activities, name: str) -> str:
     if not name:
         return "a name is missing beside a ';'"
-    if name in activities.summaries:
-        return f"'{short(name)}' is a group, which has no lags of its own; name its activities"
     if all(part.strip() in activities.names for part in name.split(",")):
         return f"no activity '{short(name)}'; between names stands ';', and not ','"
-    return f"no activity '{short(name)}'{did_you_mean(name, [*activities.names])}"
+    return f"no activity '{short(name)}'{did_you_mean(name, [*activities.names, *activities.groups])}"
 
 
 def did_you_mean(name: str, names: list[str]) -> str:
@@ -198,22 +260,28 @@ def links(row: Row) -> list[str]:
     return [part.strip() for part in parts if part.strip()]
 
 
-def parts_of(text: str, ids: Collection[str]) -> tuple[str, str, str]:
-    """The number of a predecessor, which two ends are tied, in English, and the lag."""
+def links_or_none(row: Row) -> list[str]:
+    try:
+        return links(row)
+    except CellFault:
+        return []
+
+
+def parts_of(text: str, ids: Collection[str]) -> tuple[str, str, str, str | None]:
+    """The number of a predecessor, which two ends are tied, in English, the least lag and the greatest one."""
     found = LINK.fullmatch(text)
     if found is None or text.casefold() in ids:
-        return text, "FS", "0"
+        return text, "FS", "0", None
     kind = (found[2] or "FS").upper()
-    return found[1], GERMAN.get(kind, kind), re.sub(r"^([-+])\s+", r"\1", found[3] or "0")
+    least = re.sub(r"^([-+])\s+", r"\1", found[3] or "0").strip()
+    return found[1], GERMAN.get(kind, kind), least, None if found[4] is None else found[4].strip()
 
 
-def no_predecessor(activities: Activities, row: Row, text: str, number: str) -> str:
+def no_predecessor(row: Row, text: str, number: str) -> str:
     if Column.ID not in row.terms.columns.places:
         return "predecessors are numbers of activities, and no column ID has these"
-    if number.casefold() in activities.summaries:
-        called = activities.summaries[number.casefold()]
-        return f"{short(number)} is the group '{short(called)}', which has no lags of its own; name its activities"
-    example = "" if re.fullmatch(r"\w+", number) else "; a predecessor is such as 12, 12FS+2, 14SS, 9FF-1 d or 3SF"
+    example = "" if re.fullmatch(r"\w+", number) else ("; a predecessor is such as 12, 12FS+2, 14SS, 9FF-1 d, 3SF, 12FS+50% or "
+                                                       "12FS<3 d")
     return f"'{short(text)}': no activity {short(number)}{example}"
 
 
@@ -226,5 +294,18 @@ def bounded(row: Row, column: Column, lag: int) -> int:
 def lengths_in(row: Row) -> list[str]:
     """The texts of a row that may be lengths, by which the period is chosen."""
     columns = (Column.DURATION, Column.REMAINING, Column.AT_LEAST, Column.AT_MOST)
-    found = re.findall(rf"[-+]\s*({NUMBER}\s*[^\W\d_]*)", row.cell(Column.PREDECESSORS))
-    return [row.cell(column) for column in columns] + found
+    return [row.cell(column) for column in columns] + LENGTHS.findall(row.cell(Column.PREDECESSORS))
+
+
+def shares_in(rows: Iterable[Row], own: Unit) -> list[Length]:
+    """The lengths of lags that are shares of a duration. What is no such lag is told where the cell is read."""
+    rows = [*rows]
+    durations = {row.cell(Column.ID).casefold(): row.cell(Column.DURATION) for row in rows}
+    found = []
+    for link in (link for row in rows if "%" in row.cell(Column.PREDECESSORS) for link in links_or_none(row)):
+        called, _, *told = parts_of(link, ())
+        for share in (SHARE.fullmatch(text) for text in told if text is not None):
+            with suppress(ValueError):
+                length = read_length(durations.get(called.casefold(), ""), own)
+                found += [replace(length, value=length.value * Fraction(share[1].replace(",", ".")) / 100)] if share else []
+    return found

@@ -16,7 +16,7 @@ from .columns import LAGS, Column, Columns, count_heads, is_head, read_heads, re
 from .csv_text import Sheet, cell, read_sheet
 from .decimals import with_one_sign
 from .faults import Faults
-from .lags import START, START_OF, WITH, Activities, Lags, lengths_in
+from .lags import START, START_OF, WITH, Activities, Lags, Side, lengths_in, shares_in
 from .names import Names
 from .progress import Progress
 from .quantities import Length, Scale, Unit, read_length, scale_of, units_of
@@ -70,7 +70,7 @@ def terms_of(file: str, sheet: Sheet, columns: Columns, settings: Settings) -> T
     units = units_of(lengths([row.cell(Column.DURATION) for row in rows], own))
     if own is Unit.PERIODS and len(units) == 1:
         [own] = units  # a column `duration` with one unit in all of its cells
-    found = lengths([text for row in rows for text in lengths_in(row)], own)
+    found = lengths([text for row in rows for text in lengths_in(row)], own) + shares_in(rows, own)
     scale = scale_of(found, own, head, None if settings.shift is None else parts_of(settings), week)
     is_guess = settings.shift is None and (scale is None or needs_hours(units_of(found) | {own}, named))
     if scale is None or is_guess:
@@ -117,9 +117,11 @@ class Reading:
         self.more: list[tuple[Row, int]] = []  # rows that say more about the one of these above, by its place
         self.rows: list[Row] = []  # of the activities
         self.groups: dict[int, Row] = {}  # of these, by their places
+        self.parts: dict[int, Group] = {}  # what is in each
         self.depth: list[int] = []
         self.names: dict[str, int] = {}  # the number of each activity
         self.durations: list[int] = []
+        self.planned: list[int] = []  # the same, whatever has started
         self.demands: list[tuple[int, ...]] = []
 
     def add_row(self, row: Row) -> None:
@@ -135,7 +137,7 @@ class Reading:
         self.part()
         for row in self.rows:
             self.add_activity(row)
-        status, terms = self.settings.status, self.terms
+        status, terms, self.planned = self.settings.status, self.terms, [*self.durations]
         progress = Progress(None if status is None else time_of(status, "status", self.settings, terms.calendar, terms.scale))
         progress.read(self.rows, self.durations, self.faults)
         lags, due = self.lags(), self.due()
@@ -149,9 +151,9 @@ class Reading:
         project = replace(project, dated=tuple(one for one in lags.dated if one.arc in arcs))
         notes = [*self.said_of_period(), *self.said_of_start(), *self.terms.told]
         notes += [said_of_history(arc, called) for arc in broken]
-        found = tuple(groups(self.named, self.depth, [place in self.groups for place in range(len(self.named))]))
-        return Table(project, names, self.settings, self.terms.calendar, found, lags.activities.mornings, progress,
-                     self.terms.scale, tuple(row.number for row in self.rows), tuple(notes), above)
+        mornings = lags.activities.mornings
+        return Table(project, names, self.settings, terms.calendar, (*self.parts.values(),), mornings, progress, terms.scale,
+                     tuple(row.number for row in self.rows), tuple(notes), above)
 
     def part(self) -> None:
         """What is an activity, and what a group."""
@@ -163,6 +165,8 @@ class Reading:
         with self.faults.kept():
             self.groups = {place: row for place, row in enumerate(self.named) if is_summary(self.named, self.depth, place)}
         self.rows = [row for place, row in enumerate(self.named) if place not in self.groups]
+        found = groups(self.named, self.depth, [place in self.groups for place in range(len(self.named))])
+        self.parts = dict(zip(sorted(self.groups), found))
         if not self.rows:
             self.faults.tell()
             raise BadInput(f"{self.terms.file}: no activity stands below row {self.terms.head_row}")
@@ -188,17 +192,17 @@ class Reading:
                 raise row.fault(Column.NAME, f"'{short(name)}' can't be the name of an activity: {why_no_name(name)}")
 
     def lags(self) -> Lags:
-        keys = {row.cell(column).casefold() if column is Column.ID else row.cell(column): row.cell(Column.NAME)
-                for row in self.groups.values() for column in (Column.NAME, Column.ID)}
-        summaries = {key: name for key, name in keys.items() if key}
-        lags, number = Lags(Activities(self.names, self.ids(), summaries, self.durations)), 0
+        names = {row.cell(Column.NAME): self.parts[place] for place, row in reversed(self.groups.items())}
+        ids = {row.cell(Column.ID).casefold(): self.parts[place] for place, row in self.groups.items() if row.cell(Column.ID)}
+        lags, number = Lags(Activities(self.names, self.ids(), names, ids, self.durations, self.planned)), 0
         for place, row in enumerate(self.named):
             number += place not in self.groups
             for one in [row, *(more for more, above in self.more if above == place)]:
                 if place in self.groups:
-                    self.no_lags(one)
+                    self.must_be_group(one)
+                    lags.read(one, Side(self.parts[place].activities, is_group=True), self.faults)
                 else:
-                    lags.read(one, number, self.faults)
+                    lags.read(one, Side([number]), self.faults)
                     self.limit(lags, one, number)
         return lags
 
@@ -237,14 +241,14 @@ class Reading:
                     found[number] = row.close_within(Column.DUE, row.cell(Column.DUE))
         return found
 
-    def no_lags(self, row: Row) -> None:
-        """A group has what its activities have, and nothing of its own."""
-        places = [row.terms.columns.places.get(column) for column in (*LAGS, Column.NOT_BEFORE, Column.END_BY, Column.DUE)]
+    def must_be_group(self, row: Row) -> None:
+        """A group has the dates and demands that its activities have, and none of its own."""
+        places = [row.terms.columns.places.get(column) for column in (Column.NOT_BEFORE, Column.END_BY, Column.DUE)]
         for column in [*(place for place in places if place is not None), *row.terms.columns.resources]:
             text = cell(row.cells, column)
             if text and text != "0":
                 with self.faults.kept():
-                    raise row.fault(column, "a group has no lags, dates or demands of its own; its activities have them")
+                    raise row.fault(column, "a group has no dates or demands of its own; its activities have them")
 
     def project(self, arcs: tuple[Arc, ...], due: dict[int, int], called: dict[int, str]) -> tuple[Project, Names]:
         """With its absences, and with what is minimized."""
