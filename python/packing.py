@@ -45,6 +45,8 @@ def metadata() -> str:
     heads = {"Metadata-Version": "2.1", "Name": project["name"], "Version": version(), "Summary": project["description"],
              "Requires-Python": project["requires-python"], "Description-Content-Type": "text/markdown"}
     lines = [f"{head}: {text}\n" for head, text in heads.items()]
+    for name, needs in project["optional-dependencies"].items():
+        lines += [f"Provides-Extra: {name}\n", *(f"Requires-Dist: {one}; extra == '{name}'\n" for one in needs)]
     return "".join(lines) + "\n" + (TOP / "README.md").read_text()
 
 

@@ -9,6 +9,7 @@ import sys
 import tomllib
 import unittest
 import venv
+import zipfile
 
 from planner.tests.helpers import CALLED, EXAMPLES, PSMAX, TOP, InFolder, psmax
 from psmax import __version__
@@ -128,7 +129,7 @@ class Installed(InFolder):
         project = told["project"]
         self.assertEqual((project["name"], project["requires-python"], project["dependencies"], [*project["scripts"]]),
                          ("psmax", ">=3.11", [], ["plan"]))
-        self.assertEqual(told["build-system"]["requires"], [])
+        self.assertEqual((told["build-system"]["requires"], project["optional-dependencies"]), ([], {"holidays": ["holidays"]}))
         ran = subprocess.run([sys.executable, "-m", "psmax.planner", "--version"], cwd=TOP / "python", text=True,
                              capture_output=True, env={**os.environ, **CALLED})
         self.assertIn(f"plan {__version__}", ran.stdout)
@@ -163,6 +164,9 @@ class Installed(InFolder):
                   for folder in ("source", archive.removesuffix(".tar.gz"))]
         first, second = ((self.folder / wheel).read_bytes() for wheel in wheels)
         self.assertEqual(first, second)
+        with zipfile.ZipFile(self.folder / wheels[0]) as wheel:
+            said = wheel.read(f"psmax-{__version__}.dist-info/METADATA").decode()
+        self.assertIn("Provides-Extra: holidays\nRequires-Dist: holidays; extra == 'holidays'\n", said)
 
     @unittest.skipUnless(shutil.which("dpkg-deb"), "dpkg isn't here")
     def test_debian_package(self) -> None:

@@ -12,7 +12,7 @@ from ..work_time import must_be_period, zone
 from .csv_text import Sheet
 from .faults import Faults, fault_at
 from .quantities import Unit, time_after
-from .settings import FILES, Settings, checked, from_rows
+from .settings import FILES, Settings, checked, from_rows, names_file
 
 WORDS = {word: name for name, words in (  # what a setting is called, and how rows spell it
     ("title", "title, project, titel, projekt"),
@@ -51,7 +51,8 @@ class Above:
         """The files that are read are there, or else the row is told that names one."""
         for name in FILES:
             path = getattr(settings, name)
-            if name in self.rows and path is not None and path == getattr(self.settings, name) and not os.path.exists(path):
+            is_own = path is not None and path == getattr(self.settings, name) and names_file(name, path)
+            if name in self.rows and is_own and not os.path.exists(path):
                 raise BadInput(f"{file}: row {self.rows[name]}: {name} {short(path)}: there is no such file")
 
     def placed(self, file: str, told: str) -> str:

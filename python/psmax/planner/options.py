@@ -144,7 +144,8 @@ def add_settings(one: argparse.ArgumentParser) -> None:
     project.add_argument("--period", metavar="P", help="the unit of time: minutes, hours, days, weeks, or '30 minutes' for "
                          "example (default: as the table says)")
     project.add_argument("--workdays", metavar="DAYS", help="the days with work, such as mon-fri or Mo-Fr (default: every day)")
-    project.add_argument("--holidays", metavar="FILE", help="a file of days without work, one date a line")
+    project.add_argument("--holidays", metavar="DAYS", help="days without work: the public holidays of a country "
+                         "or a part of it, such as DE or DE-BY, or a file with a day or some a line")
     project.add_argument("--shift", metavar="HOURS", help="the hours of work of a day, such as 07:00-12:00,13:00-16:00")
     project.add_argument("--zone", metavar="ZONE", help="the time zone of periods around the clock and of calendars, such as "
                          "Europe/Berlin")

@@ -11,10 +11,12 @@ from ..dates import DAYS as NAMES_OF_DAYS
 from ..project import Arc, least_starts
 from .above import Above
 from .project_file import ProjectFile
-from .settings import Settings, called
+from .free_days import CODE
+from .settings import Settings, called, named_holidays
 from .wording import Words
 
 NOT_BEFORE = "'not before'"
+YEAR = 365  # days
 WEEKS = 3  # that `plan check` shows
 GERMAN = ("mo", "di", "mi", "do", "fr", "sa", "so")
 
@@ -88,6 +90,8 @@ def calendar(file: ProjectFile) -> str:
     text += f", {workdays(file, days.workdays)}" if isinstance(days, Days) else ", around the clock"
     if isinstance(found, Shifts):
         text += " " + ",".join(f"{clock(begins)}-{clock(ends)}" for begins, ends in found.shift)
+    if CODE.fullmatch(file.settings.holidays or ""):
+        return f"{text}, holidays of {file.settings.holidays}"
     return text + (f", {many(len(found.holidays_of()), 'holiday')}" if found.holidays_of() else "")
 
 
@@ -136,7 +140,7 @@ def read_back(file: ProjectFile) -> list[str]:
     """All that `plan check` says of a table without an answer."""
     lines = [read_back_line(file), *file.notes, *below("settings", settings_read(file))]
     if file.calendar is not None:
-        lines += weeks(file, file.calendar)
+        lines += weeks(file, file.calendar) + below("holidays of the first year", free_days(file, file.calendar))
     return lines + below("absences", absences(file))
 
 
@@ -171,6 +175,14 @@ def weeks(file: ProjectFile, found: Calendar) -> list[str]:
         days = [monday + (7 * week + day) * DAY for day in range(7)]
         lines.append(f"  {found.brief_day(days[0]):22}" + "".join(f"{of_day(file, found, day):>8}" for day in days))
     return lines
+
+
+def free_days(file: ProjectFile, found: Calendar) -> list[str]:
+    """The holidays of twelve months, each with its name."""
+    first = found.begins(0)
+    named = {at_midnight(day): name for day, name in named_holidays(file.settings).items()}
+    near = [day for day in sorted(named) if first - DAY < day < first + YEAR * DAY]
+    return [f"{found.brief_day(day)}  {named[day]}".rstrip() for day in near]
 
 
 def of_day(file: ProjectFile, found: Calendar, day: datetime.datetime) -> str:

@@ -6,12 +6,12 @@ from collections.abc import Mapping
 from dataclasses import dataclass, fields, replace
 
 from ..calendars import Calendar
-from ..dates import FAR, FAR_YEARS, ORDERS, is_dated, read_moment
+from ..dates import ORDERS, is_dated
 from ..errors import BadInput
-from ..files import read_text
 from ..letters import short
 from ..project import MOST_UNITS
 from ..work_time import WorkTime, moment, must_be_period
+from .free_days import CODE, named_days
 from .quantities import Scale, Unit, day_of_serial, time_after
 
 FILES = {"holidays": "the file of holidays", "absences": "the table of absences"}  # the settings that name files
@@ -42,12 +42,14 @@ class Settings:
 
     def files(self) -> dict[str, str]:
         """The files that these name, by what they are."""
-        return {what: getattr(self, name) for name, what in FILES.items() if getattr(self, name) is not None}
+        told = {name: getattr(self, name) for name in FILES if getattr(self, name) is not None}
+        return {FILES[name]: text for name, text in told.items() if names_file(name, text)}
 
     def rows(self, folder: str) -> dict[str, str]:
         """The same as rows of a page in this folder."""
         told = {called(field.name): getattr(self, field.name) for field in fields(self)}
-        paths = {name: os.path.relpath(told[name], folder or ".") for name in FILES if told[name] is not None}
+        paths = {name: os.path.relpath(text, folder or ".") for name, text in told.items()
+                 if text is not None and names_file(name, text)}
         return {name: text for name, text in {**told, **paths}.items() if text is not None}
 
 
@@ -61,7 +63,7 @@ NAMES = tuple(called(field.name) for field in fields(Settings))  # as rows are c
 def from_rows(rows: Mapping[str, str], folder: str) -> Settings:
     """Of the rows of a page or a table that lies in this folder."""
     told = {("first" if name == "from" else name): text for name, text in rows.items() if name in NAMES}
-    told |= {name: os.path.join(folder, told[name]) for name in FILES if name in told}
+    told |= {name: os.path.join(folder, text) for name, text in told.items() if names_file(name, text)}
     return Settings(**told)
 
 
@@ -89,22 +91,19 @@ def calendar(settings: Settings, unit: str, days: frozenset[datetime.date] = fro
 
 
 def holidays(settings: Settings) -> frozenset[datetime.date]:
-    """A date a line; what stands behind it is a note, and so is a line that begins with #."""
-    found: set[datetime.date] = set()
-    first, faults = moment(settings.first or "", "from", settings.dates).at.date() if settings.holidays else None, []
-    for number, line in enumerate(read_text(settings.holidays).splitlines() if settings.holidays else [], 1):
-        words = line.split()
-        if words and not words[0].startswith("#"):
-            try:
-                day = read_moment(words[0], settings.dates).at.date()
-                if first is not None and abs(day - first) > FAR:
-                    raise ValueError(f"more than {FAR_YEARS} years from the project's start")
-                found.add(day)
-            except ValueError as fault:
-                faults.append(f"{settings.holidays}: line {number}: '{short(words[0])}': {fault}")
-    if faults:
-        raise BadInput(*faults)
-    return frozenset(found)
+    return frozenset(named_holidays(settings))
+
+
+def named_holidays(settings: Settings) -> dict[datetime.date, str]:
+    """The days without work that the settings say, and what each is called."""
+    if settings.holidays is None:
+        return {}
+    return named_days(settings.holidays, settings.dates, moment(settings.first or "", "from", settings.dates).at.date())
+
+
+def names_file(name: str, text: str) -> bool:
+    """Whether a setting names a file, and not the code of a country's holidays."""
+    return name in FILES and not (name == "holidays" and CODE.fullmatch(text))
 
 
 def must_be_periods(text: str, name: str, time: int, found: Calendar | None) -> None:

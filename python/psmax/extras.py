@@ -1,0 +1,18 @@
+"""Packages of the machine that most users do without. Each is imported where it is asked for."""
+import sys
+from importlib import import_module
+from types import ModuleType
+
+from .errors import Failed
+
+
+def extra(name: str, what: str) -> ModuleType:
+    """The package, or one line that says what needs it and how to get it. `plan` starts without the packages of the machine,
+    so these are added first."""
+    try:
+        if sys.flags.no_site and name not in sys.modules:
+            import site
+            site.main()
+        return import_module(name)
+    except ImportError:
+        raise Failed(f"{what} needs the package {name}: install python3-{name}, or `pip install psmax[{name}]`") from None
