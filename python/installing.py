@@ -90,8 +90,8 @@ class Place:
             self.made[kind].append(told)
 
     def uninstall(self) -> None:
-        """All that was made, and no folder in which something else is. Version 1.0 wrote nothing down: its programs and pages are
-        these, and its folders stay."""
+        """All that was made, and no folder in which something else is. Version 1.0 wrote nothing down: its programs and pages
+        are these, and its folders stay."""
         names = (*packing.PROGRAMS, "plan")
         older = [self.prefix / place for name in names for place in (f"bin/{name}", f"share/man/man1/{name}.1")]
         for path in [self.root / told for told in self.made["files"]] or older:

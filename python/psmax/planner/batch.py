@@ -178,7 +178,7 @@ def row_of(task: Task, wanted: Batch, clock: Clock) -> Row | None:
 
 
 def begin(words: Sequence[str]) -> subprocess.Popen[bytes]:
-    """`plan solve` as a process of its own, which starts soon without the packages of the machine (-S), and ends with this one."""
+    """`plan solve` as a process of its own, which ends with this one. It starts soon without the machine's packages (-S)."""
     home = {"PYTHONPATH": str(pathlib.Path(__file__).resolve().parents[2])}
     return subprocess.Popen(tied([sys.executable, "-S", "-m", "psmax.planner", "solve", *words]), stdin=subprocess.DEVNULL,
                             stdout=subprocess.PIPE, stderr=subprocess.PIPE, env={**os.environ, **home}, start_new_session=True)
