@@ -159,17 +159,18 @@ def join(options: dict[str, str], data: bytes) -> int:
     return 0 if is_whole else 3
 
 
-def claim_of(event: bytes) -> str:
-    """The claim that an event of a record makes."""
+def claim_of(told: bytes) -> str:
+    """The claim of a record, which is an event or stands in words."""
+    event = told[1:]
     value = sum((byte & 127) << 7 * place for place, byte in enumerate(event[1:])) // 2
-    return {3: f"optimal {value}", 7: f"bound {value}", 11: "no schedule"}[event[0]]
+    claims = {b"\3": f"optimal {value}", b"\7": f"bound {value}", b"\13": "no schedule"}
+    return claims.get(event[:1]) or told.decode("utf-8", "replace").strip()
 
 
 def verify(options: dict[str, str], data: bytes, seconds: float) -> int:
     part = options.get("--part")
     time.sleep(seconds if part else 0)
-    told = sys.stdin.buffer.read().removeprefix(b"record 3\n")
-    claim = told.decode().strip() if told[:1].isalpha() else claim_of(told[1:])
+    claim = claim_of(sys.stdin.buffer.read().removeprefix(b"record 3\n"))
     search = Search(Project(data), [], None, float("inf"))
     search.run([0])
     end = None if search.starts is None else search.starts[-1]
