@@ -154,7 +154,7 @@ class Faults(InFolder):
         self.told(b"PK\x03\x04", "spreadsheet")
         self.told('activity,days\n"a,3\n', "not a table in CSV")
         self.told("activity,days\n,3\n", "row 2, column A (activity)")
-        self.told("activity,days,crew" + " " * 100_000 + "x\n", "row 1, column C (crew x)")
+        self.told("activity,days,crew" + " " * 30_000 + "x\n", "row 1, column C (crew x)")
         self.told("activity,days\na,\x1b[2J\n", "row 2, column B (days): '?[2J'")
 
     def test_limits(self) -> None:

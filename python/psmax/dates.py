@@ -23,6 +23,7 @@ SLASHES = re.compile(r"(\d{1,2})/(\d{1,2})/(\d{4}|\d{2})" + CLOCK)
 NAME = re.compile(r"([A-Za-z]+)[.,]?\s+(?=\d)")  # of a day, in front of its date
 SPAN = re.compile(r"(\d{1,2}):(\d\d)\s*[-\u2013]\s*(\d{1,2}):(\d\d)")
 EXAMPLE = "not a date such as 2026-03-02, 02.03.2026 or 2026-03-02 06:00"
+LONGEST = 100  # signs of a date with blanks around it
 MIDNIGHT = 24 * 60
 FAR_YEARS = 20  # from the project's start; a date that is farther is a slip
 FAR = datetime.timedelta(days=366 * FAR_YEARS)
@@ -45,6 +46,8 @@ def is_before(one: Moment, other: Moment) -> bool:
 
 def is_dated(text: str) -> bool:
     """Whether a text has the form of a date, whichever it is."""
+    if len(text) > LONGEST:
+        return False
     text = NAME.sub("", text.strip(), count=1)
     return any(form.fullmatch(text) for form in (ISO, DOTS, SLASHES))
 

@@ -18,6 +18,8 @@ DASH = "-"  # what standard input is called by words of the command
 MARK = b"\xef\xbb\xbf"  # the byte order mark of UTF-8
 PAGE = "cp1252"  # of Windows in the west of Europe
 LARGEST = 16_777_216  # bytes; psmax reads no longer text, so one byte more is enough to know
+MOST_BYTES = 4_194_304  # of a table, an answer, and a text of any format but psmax's own and XML
+BLANKS = b" \t\r\n,;"  # of which blank rows at the end of a table are made
 
 
 # What standard input held, which can be read once alone.
@@ -50,9 +52,8 @@ def read_input(path: str | None) -> bytes:
 
 def read_text(path: str) -> str:
     """The text of a file, without a byte order mark."""
-    data = read_bytes(path)
-    if len(data) > LARGEST:
-        raise BadInput(f"{path}: too long")
+    data = without_blank_rows(read_bytes(path))
+    must_be_short(path, data)
     if data.startswith(b"PK\x03\x04"):
         raise BadInput(f"{path}: a spreadsheet file, not a table in text; save it as CSV")
     try:
@@ -60,6 +61,19 @@ def read_text(path: str) -> str:
     except UnicodeDecodeError as fault:
         line = data.count(b"\n", 0, fault.start) + 1
         raise BadInput(f"{path}: line {line} is not UTF-8; save the table as CSV in UTF-8") from None
+
+
+def without_blank_rows(data: bytes) -> bytes:
+    """A text without the blank rows at its end, of which a spreadsheet may write a million."""
+    if data.startswith((codecs.BOM_UTF16_LE, codecs.BOM_UTF16_BE)):
+        return data
+    end = data.find(b"\n", len(data.rstrip(BLANKS)))
+    return data if end < 0 else data[: end + 1]
+
+
+def must_be_short(called: str, data: bytes) -> None:
+    if len(data) > MOST_BYTES:
+        raise BadInput(f"{called}: too long: it has more than {MOST_BYTES:,} bytes")
 
 
 def decode(data: bytes) -> str:

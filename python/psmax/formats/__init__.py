@@ -5,7 +5,7 @@ from collections.abc import Callable
 from dataclasses import dataclass
 
 from ..errors import BadInput
-from ..files import LARGEST, decoded
+from ..files import LARGEST, decoded, must_be_short
 from ..letters import composed, short
 from ..model import Parts
 from . import job_shop, json_text, mspdi_sign, rcp, sch, sm, taillard
@@ -61,8 +61,7 @@ def found(text: str) -> Format:
 
 def read(data: bytes, project: Parts, called: str, name: str | None = None) -> Format:
     """Reads a project into an empty one. Faults begin with what the text is called."""
-    if len(data) > LARGEST:
-        raise BadInput(f"{called}: too long")
+    must_be_readable(called, data)
     text = composed(decoded(data))
     try:
         one = found(text) if name is None else named(name)
@@ -70,6 +69,15 @@ def read(data: bytes, project: Parts, called: str, name: str | None = None) -> F
     except BadInput as fault:
         raise BadInput(*(f"{called}: {re.sub('^the text: ', '', str(told))}" for told in fault.args)) from None
     return one
+
+
+def must_be_readable(called: str, data: bytes) -> None:
+    """A fault where a text is too long: psmax's own and XML may have so many bytes as psmax reads, others fewer."""
+    begin = decoded(data[:10_000])
+    if not sch.is_like(begin) and not mspdi.is_like(begin):
+        must_be_short(called, data)
+    if len(data) > LARGEST:
+        raise BadInput(f"{called}: too long: it has more than {LARGEST:,} bytes")
 
 
 def of_file(path: str) -> str:

@@ -1,7 +1,9 @@
 """Job shops of the OR-Library and of JSPLIB: a line for each job, with machine and time of each operation."""
+from collections.abc import Iterator
+
 from ..errors import BadInput
 from ..model import Parts
-from .numbers import Numbers, all_numbers, lines_of
+from .numbers import Numbers, all_numbers, first_lines, lines_of
 from .shops import Operation, fill, job_shop_of, read_sizes
 
 NAME, SUFFIX = "a job shop by lines", ".jsp"
@@ -9,13 +11,13 @@ NAME, SUFFIX = "a job shop by lines", ".jsp"
 
 def is_like(text: str) -> bool:
     """The number of jobs and of machines, and then a line with two numbers for each machine."""
-    lines = [line.split() for _, line in own_lines(text)][:2]
+    lines = first_lines(own_lines(text))
     return len(lines) == 2 and len(lines[0]) == 2 and all_numbers(" ".join(lines[0])) and len(lines[1]) == 2 * int(lines[0][1])
 
 
-def own_lines(text: str) -> list[tuple[int, str]]:
+def own_lines(text: str) -> Iterator[tuple[int, str]]:
     """Without the comments of JSPLIB."""
-    return [(number, line) for number, line in lines_of(text) if not line.lstrip().startswith("#")]
+    return ((number, line) for number, line in lines_of(text) if not line.lstrip().startswith("#"))
 
 
 def read(text: str, project: Parts) -> None:

@@ -1,7 +1,7 @@
 """Patterson's text of RCPSP (`.rcp`)."""
 from ..model import Parts
 from ..project import MOST_RESOURCES
-from .numbers import Numbers, all_numbers, lines_of
+from .numbers import Numbers, all_numbers, first_lines, lines_of
 from .precedence import MOST_JOBS, Jobs, jobs_of
 
 NAME, SUFFIX = "Patterson's text", ".rcp"
@@ -9,7 +9,7 @@ NAME, SUFFIX = "Patterson's text", ".rcp"
 
 def is_like(text: str) -> bool:
     """The number of jobs and of resources, and then a line with the units of each."""
-    lines = [line.split() for _, line in lines_of(text)][:2]
+    lines = first_lines(lines_of(text))
     return len(lines) == 2 and len(lines[0]) == 2 and all_numbers(" ".join(lines[0])) and len(lines[1]) == int(lines[0][1])
 
 

@@ -5,7 +5,7 @@ from xml.parsers import expat
 from ..errors import BadInput
 from ..letters import short
 
-DEEPEST, MOST = 64, 1_000_000  # levels and elements
+DEEPEST, MOST = 64, 500_000  # levels and elements
 HEAD = '<?xml version="1.0" encoding="UTF-8" standalone="yes"?>\n'
 
 

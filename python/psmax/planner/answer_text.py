@@ -6,7 +6,7 @@ from dataclasses import dataclass, field
 
 from ..dates import is_dated
 from ..errors import BadInput
-from ..files import LARGEST, decoded, read_input
+from ..files import decoded, must_be_short, read_input
 from ..letters import composed, short
 from .columns import is_head
 from .csv_text import Sheet, cell, letters, read_sheet
@@ -76,8 +76,7 @@ def read_answer(path: str | None) -> AnswerText:
 
 
 def answer_of(data: bytes, called: str) -> AnswerText:
-    if len(data) > LARGEST:
-        raise BadInput(f"{called}: too long")
+    must_be_short(called, data)
     text = decoded(data)
     sheet = named_sheet(text)
     if sheet is not None and "start" in map(str.lower, sheet.heads):

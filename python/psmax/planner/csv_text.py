@@ -7,10 +7,12 @@ from dataclasses import dataclass
 from functools import lru_cache
 
 from ..errors import BadInput
+from ..files import MOST_BYTES
 from ..letters import composed
 
 SEPARATORS = {"comma": ",", "semicolon": ";", "tab": "\t"}
 SEP_LINE = re.compile(r'"?sep=(.)"?[ ,;\t]*\r?\n', re.I)  # what a spreadsheet puts first to tell the separator
+MOST_ROWS, MOST_CELLS, MOST_SIGNS = 100_000, 250_000, 32_767  # of a table; of a cell, as in spreadsheets
 MOST_TITLES = 40  # rows above the columns
 FORCED = re.compile(r'="(?:[^"]|"")*"')
 ODD = re.compile(r"[-=+@\t\r]|[^\w\s]*\d|[^\W\d_]+[\s./-]*\d+(?:[\s.,/-]+\d+)?$|(?:true|false|wahr|falsch)$", re.I)
@@ -57,9 +59,12 @@ def read_sheet(file: str, text: str, names_columns: Callable[[list[str]], bool] 
     """The separator is the one that a line `sep=` tells, else the one of comma, semicolon and tab that most rows have at
     least once. The first row that names the columns is asked for; where none does, it is the first one that has most of their
     names. Heads have one blank between words."""
+    must_be_small(file, text, SEPARATORS.values())
     text = composed(text.removeprefix(MARK))
     told = SEP_LINE.match(text)
     text = text[told.end() :] if told else text
+    if told:
+        must_be_small(file, text, told[1])
     separator = told[1] if told else separator_of(text, names_columns)
     rows = split(file, text, separator)
     place = head_of(rows, names_columns, count_heads)
@@ -85,9 +90,26 @@ def split(file: str, text: str, separator: str) -> list[list[str]]:
     """Of a text once, however often it is looked at; nobody changes what it is."""
     try:
         found = csv.reader(io.StringIO(text, newline=""), delimiter=separator, strict=True)
-        return [[plain(shown(one.strip())) for one in row] for row in found]
+        rows = [[plain(shown(one.strip())) for one in row] for row in found]
     except (csv.Error, ValueError) as fault:
         raise BadInput(f"{file}: not a table in CSV: {fault}") from None
+    for number, row in enumerate(rows, 1):
+        long = next((place for place, one in enumerate(row) if len(one) > MOST_SIGNS), None)
+        if long is not None:
+            raise BadInput(f"{file}: row {number}, column {letters(long)}: a cell has at most {MOST_SIGNS:,} signs")
+    return rows
+
+
+def must_be_small(file: str, text: str, separators: Iterable[str]) -> None:
+    """Counted before anything is made of it, since a text has many rows or cells in little room."""
+    if len(text) > MOST_BYTES:
+        raise BadInput(f"{file}: too long: it has more than {MOST_BYTES:,} bytes")
+    rows = max(text.count("\n"), text.count("\r"))
+    if rows > MOST_ROWS:
+        raise BadInput(f"{file}: a table has at most {MOST_ROWS:,} rows, and this one {rows:,}")
+    cells = rows + max(map(text.count, separators))
+    if cells > MOST_CELLS:
+        raise BadInput(f"{file}: a table has at most {MOST_CELLS:,} cells, and this one {cells:,}")
 
 
 def head_of(rows: list[list[str]], names_columns: Callable[[list[str]], bool], count_heads: Callable[[list[str]], int]) -> int:

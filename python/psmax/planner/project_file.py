@@ -9,8 +9,8 @@ from ..calendars import Calendar
 from ..clock import Clock
 from ..date_style import decimal_sign, style_of
 from ..errors import BadInput
-from ..files import LARGEST, decoded, is_in_code_page, read_bytes, read_text
-from ..formats import FORMATS, read
+from ..files import decoded, is_in_code_page, read_bytes, read_text, without_blank_rows
+from ..formats import FORMATS, must_be_readable, read
 from ..formats.sch import CTRL_Z
 from ..project import Goal
 from ..project import Project as Numbers
@@ -104,9 +104,10 @@ def page_of(project: str) -> str:
 
 def open_project(path: str, words: Settings = Settings(), page: str | None = None) -> ProjectFile:
     """The project in a file, with the names of the page that is named, which must be there, or of the one beside it."""
-    data = read_bytes(path)
+    data = without_blank_rows(read_bytes(path))
     if data.startswith(b"PK\x03\x04"):
         raise BadInput(f"{path}: this is a spreadsheet file, and no project; save its table as CSV")
+    must_be_readable(path, data)
     text = decoded(data)
     if text.startswith(WITH_STARTS) or (not is_table(path, text) and answer_sheet(text) is not None):
         raise BadInput(f"{path}: this is an answer, and no project")
@@ -166,16 +167,20 @@ def is_table(path: str, text: str) -> bool:
 def has_activities(path: str) -> bool:
     """Whether a file is a table of activities, by its columns."""
     try:
-        return is_head(read_sheet(path, decoded(read_bytes(path)), is_head).heads)
+        return is_head(read_sheet(path, read_text(path), is_head).heads)
     except BadInput:
         return False
 
 
 def is_project(path: str) -> bool:
     """Whether a file is a project text of any format, and no answer."""
-    data = read_bytes(path)
+    data = without_blank_rows(read_bytes(path))
+    try:
+        must_be_readable(path, data)
+    except BadInput:
+        return False
     text = decoded(data)
-    return (len(data) <= LARGEST and not text.startswith(WITH_STARTS) and not is_starts(text)
+    return (not text.startswith(WITH_STARTS) and not is_starts(text)
             and any(one.is_like(text) for one in FORMATS.values()))
 
 

@@ -9,7 +9,7 @@ from ..api import Project
 from ..call_files import lose_none
 from ..clock import Clock
 from ..errors import BadInput
-from ..files import DASH, decoded, read_bytes, read_text, write_whole
+from ..files import DASH, decoded, read_bytes, read_text, without_blank_rows, write_whole
 from ..letters import printable
 from ..project import Goal, too_needy
 from ..project_text import ProjectText
@@ -31,7 +31,9 @@ MODES = f"; a PSPLIB set with several modes for an activity (MRCPSP/max) is anot
 
 def read(path: str, out: str | None, wanted: str | None, words: Settings) -> int:
     """By what the file holds; a name that ends in .sch says that it is none of a table."""
-    text = decoded(read_bytes(path))
+    data = without_blank_rows(read_bytes(path))
+    formats.must_be_readable(path, data)
+    text = decoded(data)
     is_sch = pathlib.Path(path).suffix.lower() == PSPLIB or formats.FORMATS["sch"].is_like(text)
     if wanted is None and out is not None and pathlib.Path(out).suffix.lower() in OTHERS:
         wanted = formats.of_file(out)
@@ -75,6 +77,7 @@ def read_activities(path: str, out: str | None, words: Settings) -> int:
     if os.path.basename(target) in ("", ".", "..") or target.endswith(".md"):
         raise BadInput(f"the project can't be written to '{target}'; name a .sch file with --out")
     named = page_of(target)
+    lose_none({"the table": path} | words.files(), [target, named])
     source = printable(os.path.relpath(path, os.path.dirname(named) or "."))
     there = read_bytes(named) if os.path.exists(named) else None
     must_be_ours(target, named, source, there, out is not None)

@@ -23,6 +23,8 @@ from .quantities import Length, Scale, Unit, read_length, scale_of, units_of
 from .rows import Group, Row, Terms, groups, is_summary, level
 from .settings import HOURS_OF_WORK, Settings, calendar, checked, time_of
 
+MOST_ROWS = 10_000  # of activities, and of what more is said of them
+
 
 @dataclass(frozen=True)
 class Table:
@@ -44,6 +46,8 @@ class Table:
 def read_table(file: str, text: str, words: Settings, folder: str, page: Settings = Settings()) -> Table:
     """The words of the command go over the rows above the table, and these over the page of names."""
     sheet, faults = read_sheet(file, text, is_head, count_heads), Faults()
+    if len(sheet.rows) > MOST_ROWS:
+        raise BadInput(f"{file}: a table of activities has at most {MOST_ROWS:,} rows, and this one {len(sheet.rows):,}")
     above = read_above(file, sheet, folder)
     settings = checked(words.over(above.settings).over(page))
     above.must_have_files(file, settings)
