@@ -62,11 +62,12 @@ def plan(*words: object, given: bytes = b"", psmax: str = PSMAX, psprove: str = 
     return Ran([*map(str, words)], status, buffers[1].getvalue().decode(), buffers[2].getvalue().decode())
 
 
-def started(*words: object, out: int | IO[bytes] = subprocess.PIPE, psprove: str = PSPROVE) -> subprocess.Popen[str]:
+def started(*words: object, out: int | IO[bytes] = subprocess.PIPE, psprove: str = PSPROVE,
+            psmax: str = PSMAX) -> subprocess.Popen[str]:
     """The command as a process of its own, which every signal ends, however the tests were started: a copy of this process,
     which spares the start of Python. `begun` is the file that users start."""
     return subprocess.Popen([PLAN], text=True, stdout=out, stderr=subprocess.PIPE,
-                            preexec_fn=partial(copied.run, [*map(str, words)], CALLED | {"PSPROVE": psprove}))
+                            preexec_fn=partial(copied.run, [*map(str, words)], {"PSMAX": psmax, "PSPROVE": psprove}))
 
 
 def begun(*words: object, psprove: str = PSPROVE) -> subprocess.Popen[str]:

@@ -70,7 +70,7 @@ class Faults(InFolder):
         for closed, status, text in ((">&-", 1, "plan: standard output is closed\n"),
                                      ("<&-", 1, "plan: standard input is closed\n"), ("2>&-", 0, "")):
             with self.subTest(closed):
-                words = ["sh", "-c", f'exec "$@" {closed}', "sh", sys.executable, str(PLAN), "gantt", str(SITE)]
+                words = ["sh", "-c", f'exec "$@" {closed}', "sh", sys.executable, "-S", str(PLAN), "gantt", str(SITE)]
                 with open(EXAMPLES / "building-site-feasible.starts", "rb") as starts:
                     ran = subprocess.run(words, stdin=starts, capture_output=True, text=True,
                                          env={**os.environ, **CALLED})

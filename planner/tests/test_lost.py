@@ -133,12 +133,6 @@ class Results(InFolder):
         self.refused(plan("solve", self.file("p.sch", "x"), "--out", self.file("best", STARTS)), 2, "p.sch: word 0")
 
 
-def heed_all() -> None:
-    """Has a child end at each of the signals, also where the tests run under nohup, which ignores one."""
-    for number in ENDS:
-        signal.signal(number, signal.SIG_DFL)
-
-
 class Ends(InFolder):
     """Ctrl-C, a request to end and a terminal that closes end every command alike."""
 
@@ -158,11 +152,9 @@ class Ends(InFolder):
         """A command that waits for its answer ends without a word but one."""
         begun = self.folder / "begun"
         slow = self.program("slow", f"> {begun}\nexec sleep 30")
-        words = [sys.executable, str(PLAN), "gantt", str(INPUTS / "two-jobs.sch"), str(self.file("starts", STARTS))]
+        words = ("gantt", INPUTS / "two-jobs.sch", self.file("starts", STARTS))
         for sent in ENDS:
-            with self.subTest(sent):
-                child = subprocess.Popen(words, stderr=subprocess.PIPE, text=True, env={**os.environ, "PSMAX": slow},
-                                         preexec_fn=heed_all)
+            with self.subTest(sent), started(*words, psmax=slow) as child:
                 while not begun.exists():
                     time.sleep(0.02)
                 begun.unlink()

@@ -2,6 +2,7 @@
 import datetime
 import re
 from dataclasses import dataclass
+from functools import lru_cache
 
 from .letters import short
 
@@ -44,6 +45,7 @@ def is_before(one: Moment, other: Moment) -> bool:
     return one.next() <= other.at if one.is_day else one.at < other.at
 
 
+@lru_cache(maxsize=10_000)
 def is_dated(text: str) -> bool:
     """Whether a text has the form of a date, whichever it is."""
     if len(text) > LONGEST:
@@ -52,6 +54,7 @@ def is_dated(text: str) -> bool:
     return any(form.fullmatch(text) for form in (ISO, DOTS, SLASHES))
 
 
+@lru_cache(maxsize=10_000)
 def read_moment(text: str, order: str | None = None) -> Moment:
     """A date, perhaps with an hour; ValueError says what is wrong with another text. `order` is that of numbers between
     slashes."""

@@ -2,6 +2,7 @@
 import re
 from dataclasses import dataclass, field
 from enum import Enum
+from functools import lru_cache
 
 from ..errors import BadInput
 from ..letters import short
@@ -14,7 +15,10 @@ RESOURCE = re.compile(r"(.*\S)\s*\(\s*(\d+)\s*\)")
 
 
 class Column(Enum):
-    """What a column has. The value is what it is called in faults."""
+    """What a column has. The value is what it is called in faults. Each is looked up for each cell, so its hash is the one of
+    an object, which takes no call of Python."""
+
+    __hash__ = object.__hash__
 
     NAME = "name"
     DURATION = "duration"
@@ -77,6 +81,7 @@ class Columns:
         return Unit.PERIODS if head in ("duration", "dauer") else WORDS[head]
 
 
+@lru_cache(maxsize=1_000)
 def column_of(head: str) -> Column | None:
     found = HEADS.get(head.lower())
     return Column.RESOURCE if found is None and RESOURCE.fullmatch(head) else found

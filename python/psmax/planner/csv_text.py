@@ -124,12 +124,12 @@ def heads(row: list[str]) -> list[str]:
 
 def shown(cell: str) -> str:
     """What a spreadsheet shows of a cell that it is told to take for a text: `="2-3"` is 2-3."""
-    return cell[2:-1].replace('""', '"') if FORCED.fullmatch(cell) else cell
+    return cell[2:-1].replace('""', '"') if cell.startswith("=") and FORCED.fullmatch(cell) else cell
 
 
 def plain(cell: str) -> str:
     """The cell with a blank for each line break and each blank of another kind."""
-    return ODD_BLANKS.sub(" ", cell)
+    return cell if cell.isascii() and cell.isprintable() else ODD_BLANKS.sub(" ", cell)
 
 
 class Text(str):

@@ -1,6 +1,5 @@
 """Faults: those of the cells of a table, and whatever else went wrong, as an exit status and a line each."""
-from collections.abc import Iterator
-from contextlib import contextmanager
+from types import TracebackType
 
 from ..calendars import BEYOND
 from ..errors import BadInput, Failed, TimeUp
@@ -28,12 +27,18 @@ class Faults:
     def __init__(self) -> None:
         self.found: list[CellFault] = []
 
-    @contextmanager
-    def kept(self) -> Iterator[None]:
-        try:
-            yield
-        except CellFault as fault:
+    def kept(self) -> "Faults":
+        """Keeps the fault of what is done meanwhile, where that has one in a cell."""
+        return self
+
+    def __enter__(self) -> None:
+        pass
+
+    def __exit__(self, kind: type[BaseException] | None, fault: BaseException | None, trace: TracebackType | None) -> bool:
+        if isinstance(fault, CellFault):
             self.found.append(fault)
+            return True
+        return False
 
     def tell(self) -> None:
         """Of each cell the first; what else it has may follow from that."""
