@@ -14,7 +14,7 @@ from functools import partial
 from typing import NoReturn
 
 from psmax.clock import ENDS
-from psmax.planner import batch
+from psmax.planner import batch, report, solve, watch, why  # noqa: F401: so that no copy has to import what it runs
 from psmax.planner.main import main
 
 

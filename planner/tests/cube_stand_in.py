@@ -6,15 +6,14 @@ what it found, which `join` believes where the log is whole and of its cube. `ve
 SECONDS, too."""
 from __future__ import annotations
 
-import json
+import _thread
 import os.path
 import sys
-import threading
 import time
 import zlib
 from itertools import combinations
 
-TYPE_CHECKING = False  # what the types need, which this doesn't import: a test starts it a hundred times
+TYPE_CHECKING = False  # this imports nothing that it can do without: a test starts it a hundred times
 if TYPE_CHECKING:
     from collections.abc import Iterator
     from typing import Any
@@ -45,6 +44,17 @@ def read(path: str) -> str:
 def write(path: str, text: str) -> None:
     with open(path, "w") as file:
         file.write(text)
+
+
+def to_json(told: object) -> str:
+    """Of what has no signs but those of numbers and plain words."""
+    text = str(told).replace("'", '"').replace("None", "null")
+    return text.replace("True", "true").replace("False", "false")
+
+
+def of_json(text: str) -> Row:
+    found: Row = eval(text, {"null": None, "true": True, "false": False})
+    return found
 
 
 def numbers(path: str | None) -> Arcs:
@@ -94,16 +104,17 @@ def solve(options: dict[str, str], data: bytes, seconds: float) -> int:
     if "--under" not in options:
         write_log(options, {"project": zlib.crc32(data), "path": [], "refuted": False, "starts": None,
                             "lemmas": [], "import": []})
-        print(json.dumps({"starts": None, "makespan": None, "bound": 0, "conflicts": 1}))
+        print(to_json({"starts": None, "makespan": None, "bound": 0, "conflicts": 1}))
         return 3
     project, arcs = Project(data), numbers(options["--under"])
     lower: list[int] = []
-    follower = threading.Thread(target=lambda: lower.extend(int(line.split()[-1]) for line in sys.stdin), daemon=True)
-    follower.start()
-    follower.join(seconds)
+    running = _thread.allocate_lock()
+    running.acquire()
+    _thread.start_new_thread(follow, (lower, running))
+    has_ended = running.acquire(timeout=seconds)
     start = [line[1] for line in numbers(options.get("--start"))]
     search = Search(project, arcs, min([*lower, *start[-1:]], default=None), int(options["--conflicts"]) / 100)
-    refuted = search.run([0]) and (follower.is_alive() or seconds == 0)
+    refuted = search.run([0]) and (seconds == 0 or not (has_ended or running.acquire(blocking=False)))
     starts = search.starts or start or None
     lemmas = [arcs] if refuted and arcs else []
     write_log(options, {"project": zlib.crc32(data), "path": arcs, "below": search.below, "refuted": refuted,
@@ -111,14 +122,21 @@ def solve(options: dict[str, str], data: bytes, seconds: float) -> int:
     lines = (" ".join(map(str, [2, *sum(lemma, [])])) + "\n" for lemma in lemmas)
     write(options["--export"], "".join(lines))
     children = [] if refuted else [*pieces(project, arcs, int(options["--pieces"]))]
-    print(json.dumps({"cube": "refuted" if refuted else "open", "makespan": search.starts and search.starts[-1],
-                      "starts": search.starts, "pieces": children, "conflicts": 1, "decisions": 1, "record_bytes": 1,
-                      "seconds": 1}))
+    print(to_json({"cube": "refuted" if refuted else "open", "makespan": search.starts and search.starts[-1],
+                   "starts": search.starts, "pieces": children, "conflicts": 1, "decisions": 1, "record_bytes": 1,
+                   "seconds": 1}))
     return 0 if refuted else 3
 
 
+def follow(lower: list[int], running: _thread.LockType) -> None:
+    """Takes shorter schedules until there is nobody any more who tells them."""
+    for line in sys.stdin:
+        lower.append(int(line.split()[-1]))
+    running.release()
+
+
 def write_log(options: dict[str, str], log: Row) -> None:
-    write(options["--record"], f"record 3\n{json.dumps(log)}\n")
+    write(options["--record"], f"record 3\n{to_json(log)}\n")
 
 
 def fault(log: str, data: bytes, arcs: Arcs, imported: Arcs, lemmas: list[Arcs]) -> str | Row:
@@ -126,7 +144,7 @@ def fault(log: str, data: bytes, arcs: Arcs, imported: Arcs, lemmas: list[Arcs])
     text = read(log)
     if not text.endswith("}\n"):
         return "event 1 is wrong"
-    row: Row = json.loads(text.removeprefix("record 3\n"))
+    row: Row = of_json(text.removeprefix("record 3\n"))
     told = [[line[place : place + 3] for place in range(1, len(line), 3)] for line in imported]
     is_right = row["project"] == zlib.crc32(data) and row["path"] == arcs and row["import"] == imported
     return row if is_right and all(lemma in lemmas for lemma in told) else "its log does not refute it"

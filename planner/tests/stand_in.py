@@ -3,7 +3,8 @@
 Stands in for psprove. STORY is a file of JSON, which says what it does:
 
 tells   the reports of its book, one after another, each with the bound, and perhaps with starts
-then    "answers" at once; "waits" for its limits, and answers; "sticks", and has to be killed; or "dies"
+then    "answers" at once; "pairs", with two jobs at a time, whatever the project is; "waits" for its limits, and answers;
+        "sticks", and has to be killed; or "dies"
 answer  the starts and the bound of its answer, which is otherwise that of its last report
 record  the seconds that its record takes after the answer"""
 import json
@@ -29,6 +30,14 @@ def answer(told: dict[str, Any]) -> dict[str, Any]:
             "status": status}
 
 
+def pairs(text: str) -> dict[str, Any]:
+    """The starts of jobs of which each is tied to jobs before it alone that have an even or an odd number as it has."""
+    count, *_ = map(int, text.split("\n", 1)[0].split())
+    days = [int(line.split()[2]) for line in text.splitlines()[count + 3 : 2 * count + 5]]
+    ends = [sum(days[first : count + 1 : 2]) for first in (0, 1)]
+    return {"bound": 0, "starts": [*(sum(days[job % 2 : job : 2]) for job in range(count + 1)), max(ends)]}
+
+
 def wait(options: dict[str, str]) -> None:
     """Waits for the file that ends a search, or for the limit of seconds."""
     end = time.monotonic() + float(options["--seconds"])
@@ -48,7 +57,7 @@ def main(path: str, *words: str) -> None:
     options = dict(zip(words, words[1:]))
     if story["then"] == "waits":
         wait(options)
-    told = answer(story.get("answer", story["tells"][-1]))
+    told = answer(pairs(sys.stdin.read()) if story["then"] == "pairs" else story.get("answer", story["tells"][-1]))
     print(json.dumps(told), flush=True)
     time.sleep(story.get("record", 0))
     with open(options["--record"], "w") as file:

@@ -188,7 +188,7 @@ class Progress(InFolder):
 
     def test_time_limit(self) -> None:
         begun, path = time.monotonic(), self.hard()
-        with started("solve", path, "--seconds", "1", "--jobs", "2") as child:
+        with started("solve", path, "--seconds", "1", "--jobs", "1") as child:
             out, told = child.communicate()
         self.assertLess(time.monotonic() - begun, 60)
         self.assertEqual(child.returncode, 3)

@@ -17,7 +17,7 @@ HEAD = "activity,days,crane (1)\n"
 
 def table(chance: random.Random) -> str:
     """Jobs for one crane, so the sum of their days is the makespan."""
-    return HEAD + "".join(f"job {job},{chance.randint(1, 40)},1\n" for job in range(1, chance.randint(5, 40)))
+    return HEAD + "".join(f"job {job},{chance.randint(1, 40)},1\n" for job in range(1, chance.randint(5, 20)))
 
 
 def makespan(text: str) -> int | None:
