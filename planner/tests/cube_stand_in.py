@@ -67,6 +67,9 @@ class Search:
         self.arcs = [*project.arcs, *((i, j, v) for i, j, v in arcs)]
         self.below = below if below is not None else sum(project.durations) + sum(abs(lag) for *_, lag in project.arcs) + 1
         self.starts: list[int] | None = None
+        count = project.end + 1
+        self.after = [[(i, v) for i, j, v in self.arcs if j == last and i < last] for last in range(count)]
+        self.before = [[(j, v) for i, j, v in self.arcs if i == last and j < last] for last in range(count)]
 
     def run(self, starts: list[int]) -> bool:
         """Whether all starts that begin with these were tried."""
@@ -83,11 +86,17 @@ class Search:
                    if self.fits([*starts, time]))
 
     def fits(self, starts: list[int]) -> bool:
-        there, project = range(len(starts)), self.project
-        running = ([i for i in there if starts[i] <= time < starts[i] + project.durations[i]] for time in starts)
-        return (all(starts[j] >= starts[i] + v for i, j, v in self.arcs if i in there and j in there)
-                and all(sum(project.demands[i][k] for i in now) <= units
-                        for now in running for k, units in enumerate(project.capacities)))
+        """Whether the last one keeps its arcs and finds what it needs. Those before it do, which was asked before."""
+        last, time, project = len(starts) - 1, starts[-1], self.project
+        if any(time < starts[i] + v for i, v in self.after[last]) or any(starts[j] < time + v for j, v in self.before[last]):
+            return False
+        ends, needs = time + project.durations[last], project.demands[last]
+        if not any(needs) or ends == time:
+            return True
+        times = [time, *(start for start in starts if time < start < ends)]
+        running = ([i for i, start in enumerate(starts) if start <= now < start + project.durations[i]] for now in times)
+        return all(sum(project.demands[i][k] for i in there) <= units
+                   for there in running for k, units in enumerate(project.capacities))
 
 
 def pieces(project: Project, arcs: Arcs, count: int) -> Iterator[Row]:
