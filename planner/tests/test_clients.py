@@ -1,5 +1,6 @@
 """What other programs read of what plan writes, and write for it to read: GNOME Planner, TaskJuggler, khal and the package
 icalendar. A test is left out where its program is missing."""
+import functools
 import os
 import pathlib
 import re
@@ -55,6 +56,7 @@ export "out" { formats mspxml }
 """
 
 
+@functools.cache
 def with_icalendar() -> str | None:
     """A Python that has the package, which may be that of the system alone."""
     pythons = [sys.executable, "/usr/bin/python3"]
