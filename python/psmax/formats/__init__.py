@@ -74,7 +74,7 @@ def read(data: bytes, project: Parts, called: str, name: str | None = None) -> F
 def must_be_readable(called: str, data: bytes) -> None:
     """A fault where a text is too long: psmax's own and XML may have so many bytes as psmax reads, others fewer."""
     begin = decoded(data[:10_000])
-    if not sch.is_like(begin) and not mspdi.is_like(begin):
+    if not sch.is_like(begin) and not mspdi_sign.is_like(begin):
         must_be_short(called, data)
     if len(data) > LARGEST:
         raise BadInput(f"{called}: too long: it has more than {LARGEST:,} bytes")
