@@ -154,8 +154,8 @@ IsCutShort reply out record_out =
 abbrev pub absent : Span (Unit {0})
 absent = span (λ device. None) (λ device. 0) tt tt
 
--- A run ends with its reply written, or with a fault. The one who says what a run is says what it is that there is a reply of
--- which something is done, what outputs hold where one failed and where there is no answer, and why there is no reply.
+-- A run ends with its reply written, or with a fault. Each kind of run says what a reply is (Replied), what the outputs hold
+-- where one failed (CutOff) or where there is no answer (Unanswered), and why there is no reply (NoReply).
 pub record Ends {O D : Type 0}
     (Replied : (ReplyOf → Type 0) → Type 0) (CutOff Unanswered : Type 0) (NoReply : Fault → Type 0)
     (out : Span O) (record_out : Span D) (ended : Ended) : Type 0 where

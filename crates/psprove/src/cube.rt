@@ -43,11 +43,8 @@ fn project_of<'w, R: Files>(
     alloc: Global,
     name: &'w String,
 ) -> Result<Arc<Project>, Failure<'w>> {
-    let mut input = match fs::open(rt, name.as_str()) {
-        Ok(file) => InputReader::new(file),
-        Err(error) => return Err(Failure::of_file(&error, name)),
-    };
-    let project = read_project(alloc, &mut input)?;
+    let file = fs::open(rt, name.as_str()).map_err(|error| Failure::of_file(&error, name))?;
+    let project = read_project(alloc, &mut InputReader::new(file))?;
     Ok(Arc::new(alloc, project)?)
 }
 
@@ -75,10 +72,7 @@ fn arcs_of<'w, R: Files>(
     call: &'w CubeCall,
 ) -> Result<Vec<Lag>, Failure<'w>> {
     let text = bytes_of(rt, alloc, &call.path)?;
-    match path_of(alloc, &text) {
-        Ok(path) => Ok(path),
-        Err(fault) => Err(Failure::of_text(fault, call.path.as_str())),
-    }
+    path_of(alloc, &text).map_err(|fault| Failure::of_text(fault, call.path.as_str()))
 }
 
 /// The lemmas of a file, if it has a name.
@@ -91,10 +85,7 @@ fn lemmas_in<'w, R: Files>(
         return Ok(Vec::new(alloc));
     };
     let text = bytes_of(rt, alloc, name)?;
-    match lemmas_of(alloc, &text) {
-        Ok(lemmas) => Ok(lemmas),
-        Err(fault) => Err(Failure::of_text(fault, name.as_str())),
-    }
+    lemmas_of(alloc, &text).map_err(|fault| Failure::of_text(fault, name.as_str()))
 }
 
 /// Writes the lemmas for others, and prints the answer. The exit status.
@@ -105,13 +96,9 @@ fn answer<'w, R: Runtime>(
     found: &CubeResult,
 ) -> Result<u8, Failure<'w>> {
     if let Some(name) = &call.export {
-        let written = match fs::create(rt, name.as_str()) {
-            Ok(mut file) => file.write_all(found.lemmas.as_bytes()),
-            Err(error) => Err(error),
-        };
-        if let Err(error) = written {
-            return Err(Failure::of_file(&error, name));
-        }
+        let file = fs::create(rt, name.as_str());
+        file.and_then(|mut file| file.write_all(found.lemmas.as_bytes()))
+            .map_err(|error| Failure::of_file(&error, name))?;
     }
     let line = cube_line(alloc, found)?;
     if print!(rt; "{line}").is_err() {
@@ -161,14 +148,10 @@ fn search_into<'w, R: Runtime + Wait>(
         folder: "",
         reporter: Reporter::new(ReportForm::Nothing),
     };
-    let mut file = match fs::create(rt, record.first_name()) {
-        Ok(file) => file,
-        Err(error) => return Err(Failure::of_file(&error, &call.record)),
-    };
-    match search_cube(rt, alloc, cube, call.limits, &mut program, &mut file) {
-        Ok(found) => Ok(found),
-        Err(fault) => Err(Failure::of_cube(fault, &call.path)),
-    }
+    let file = fs::create(rt, record.first_name());
+    let mut file = file.map_err(|error| Failure::of_file(&error, &call.record))?;
+    let found = search_cube(rt, alloc, cube, call.limits, &mut program, &mut file);
+    found.map_err(|fault| Failure::of_cube(fault, &call.path))
 }
 
 /// Searches a cube, and answers. The exit status.

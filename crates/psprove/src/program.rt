@@ -70,10 +70,8 @@ impl<'w, R: Files + Wait + Eprint> Program<'w, R> {
         let (mut cubes, mut folder) = (Vec::new(alloc), "");
         if let Some(name) = &call.tree {
             folder = folder_of(name.as_str());
-            cubes = match cubes_of(alloc, &bytes_of(rt, alloc, name)?) {
-                Ok(cubes) => cubes,
-                Err(fault) => return Err(Failure::of_text(fault, "the list of cubes")),
-            };
+            let found = cubes_of(alloc, &bytes_of(rt, alloc, name)?);
+            cubes = found.map_err(|fault| Failure::of_text(fault, "the list of cubes"))?;
         }
         Ok(Program {
             rt,

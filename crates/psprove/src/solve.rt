@@ -127,10 +127,10 @@ pub(crate) fn solve<'w, R: Runtime + Threads + Wait + Sync>(
     let mut program = Program::new(rt, alloc, call, heard)?;
     let mut input = InputReader::new(match &call.project {
         None => Either::Left(rt.reader()),
-        Some(name) => match fs::open(rt, name.as_str()) {
-            Ok(file) => Either::Right(file),
-            Err(error) => return Err(Failure::of_file(&error, name)),
-        },
+        Some(name) => {
+            let file = fs::open(rt, name.as_str());
+            Either::Right(file.map_err(|error| Failure::of_file(&error, name))?)
+        }
     });
     let names = names_of(alloc, call, record.as_ref())?;
     let files = match Opener::new(rt).open(&names) {

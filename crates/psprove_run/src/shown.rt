@@ -24,20 +24,6 @@ fn are_starts(project: &Project, starts: &[i64]) -> bool
             .all(|start| -MAX_START <= *start && *start <= MAX_START)
 }
 
-/// The schedule of feasible starts.
-fn schedule_of(alloc: Global, project: &Arc<Project>, starts: &[i64]) -> Result<Schedule, Fault>
-    requires { IsFeasible (arc_value project.now) starts.now }
-    ensures schedule { IfOk result (IsScheduleFor (arc_value project.now)) }
-    ensures status { IfErr result (λ fault. exit_of fault ≡ 1) }
-    ensures fault { IfErr result IsNoDeviceFault }
-{
-    if !are_starts(project, starts) {
-        return Err(Fault::Refused);
-    }
-    let starts = Vec::from_slice(alloc, starts)?;
-    Ok(Schedule::of(Arc::try_clone(project)?, starts))
-}
-
 /// The best schedule, if there is one.
 fn best_of(
     alloc: Global,
@@ -49,10 +35,14 @@ fn best_of(
     ensures status { IfErr result (λ fault. exit_of fault ≡ 1) }
     ensures fault { IfErr result IsNoDeviceFault }
 {
-    match best {
-        Some(starts) => Ok(Some(schedule_of(alloc, project, starts)?)),
-        None => Ok(None),
+    let Some(starts) = best else {
+        return Ok(None);
+    };
+    if !are_starts(project, starts) {
+        return Err(Fault::Refused);
     }
+    let starts = Vec::from_slice(alloc, starts)?;
+    Ok(Some(Schedule::of(Arc::try_clone(project)?, starts)))
 }
 
 /// The shortest schedule, where it takes as long as is proved.

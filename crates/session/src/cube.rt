@@ -3,11 +3,11 @@
 use crate::cube_log::CubeLog;
 use crate::host::{Host, Signal};
 use crate::limits::Limits;
-use crate::link::{Link, search};
+use crate::link::{Link, boxed, search};
 use crate::starts::narrowed;
 use crate::watch::Stopwatch;
 use cube_text::CubeLemma;
-use instance::{Instance, Walks};
+use instance::{Instance, Result, Walks};
 use network::{Lag, Project};
 use std::alloc::{AllocError, Global};
 use std::io::Write;
@@ -86,9 +86,30 @@ struct CubeLink<'p, 'h, 'w, H: Host, W: Write> {
     has_failed: bool,
 }
 
-impl<H: Host, W: Write> CubeLink<'_, '_, '_, H, W> {
+impl<'p, 'h, 'w, H: Host, W: Write> CubeLink<'p, 'h, 'w, H, W> {
+    /// A link whose log begins with the schedule that is known.
+    fn new(
+        alloc: Global,
+        cube: Cube<'p>,
+        host: &'h mut H,
+        record: &'w mut W,
+    ) -> Result<CubeLink<'p, 'h, 'w, H, W>> {
+        let mut link = CubeLink {
+            project: cube.project,
+            log: CubeLog::new(alloc)?,
+            ceiling: i32::MAX,
+            host,
+            record,
+            has_failed: false,
+        };
+        if let Some(starts) = cube.start {
+            link.log_schedule(&narrowed(alloc, starts)?)?;
+        }
+        Ok(link)
+    }
+
     /// Logs a schedule, if it is shorter than those before. Whether it is.
-    fn log_schedule(&mut self, starts: &[i32]) -> Result<bool, AllocError> {
+    fn log_schedule(&mut self, starts: &[i32]) -> Result<bool> {
         let end = starts.last().copied().unwrap_or(i32::MAX);
         if end >= self.ceiling {
             return Ok(false);
@@ -98,49 +119,31 @@ impl<H: Host, W: Write> CubeLink<'_, '_, '_, H, W> {
         Ok(true)
     }
 
-    /// Writes what the search has found since: a shorter schedule, and then what it proved.
-    fn leave(&mut self, solver: &mut Solver<'_>) -> Result<(), AllocError> {
-        if let Some(starts) = solver.best() {
-            self.log_schedule(starts)?;
-        }
-        for logged in &solver.events()? {
-            self.log.put_logged(logged)?;
-        }
-        if self.log.write(self.record).is_err() {
-            self.has_failed = true;
-        }
-        Ok(())
-    }
-
-    /// What became of the cube, without parts and lemmas.
-    fn result(
-        &self,
-        alloc: Global,
-        seconds: u64,
-        solver: &Solver<'_>,
-    ) -> Result<CubeResult, AllocError> {
+    /// What became of the cube, which is split into so many parts at most where it is open.
+    fn result(&mut self, seconds: u64, pieces: u64, solver: &mut Solver<'_>) -> Result<CubeResult> {
+        let (is_refuted, counts) = (solver.state() == State::Ended, solver.counts());
         let best = match solver.best() {
-            Some(starts) => Some(starts.to_vec(alloc)?),
+            Some(starts) => Some(starts.to_vec(solver.alloc())?),
             None => None,
         };
+        let pieces = match pieces > 1 && !is_refuted {
+            true => solver.split(pieces.min(1_024) as usize)?,
+            false => Vec::new(solver.alloc()),
+        };
         Ok(CubeResult {
-            is_refuted: solver.state() == State::Ended,
+            is_refuted,
             best,
-            pieces: Vec::new(alloc),
-            counts: solver.counts(),
+            pieces,
+            counts,
             record_bytes: self.log.bytes(),
             seconds,
-            lemmas: String::new(alloc),
+            lemmas: self.log.lemmas()?,
         })
     }
 }
 
 impl<H: Host, W: Write> Link for CubeLink<'_, '_, '_, H, W> {
-    fn listen<R: Clock + Wait>(
-        &mut self,
-        _rt: &R,
-        solver: &mut Solver<'_>,
-    ) -> Result<bool, AllocError> {
+    fn listen<R: Clock + Wait>(&mut self, _rt: &R, solver: &mut Solver<'_>) -> Result<bool> {
         match self.host.signal(self.project) {
             Signal::GoOn => Ok(true),
             Signal::End => Ok(false),
@@ -154,17 +157,27 @@ impl<H: Host, W: Write> Link for CubeLink<'_, '_, '_, H, W> {
         }
     }
 
-    fn exchange<R: Clock + Wait>(
-        &mut self,
-        _rt: &R,
-        solver: &mut Solver<'_>,
-    ) -> Result<bool, AllocError> {
-        self.leave(solver)?;
+    fn exchange<R: Clock + Wait>(&mut self, rt: &R, solver: &mut Solver<'_>) -> Result<bool> {
+        self.leave(rt, solver)?;
         Ok(!self.has_failed)
+    }
+
+    /// Writes what the search has found since: a shorter schedule, and then what it proved.
+    fn leave<R: Clock + Wait>(&mut self, _rt: &R, solver: &mut Solver<'_>) -> Result<()> {
+        if let Some(starts) = solver.best() {
+            self.log_schedule(starts)?;
+        }
+        for logged in &solver.events()? {
+            self.log.put_logged(logged)?;
+        }
+        if self.log.write(self.record).is_err() {
+            self.has_failed = true;
+        }
+        Ok(())
     }
 }
 
-/// A search of a cube that knows what others have proved, and its log, which begins with the schedule that is known.
+/// A search of a cube that knows what others have proved.
 fn solver_of<'i>(
     alloc: Global,
     instance: &'i Instance,
@@ -172,9 +185,7 @@ fn solver_of<'i>(
     cube: Cube<'_>,
     limits: Limits,
     ceiling: Option<i32>,
-) -> Result<Solver<'i>, CubeFault> {
-    let options = limits.solver(0, cube.lemmas.len());
-    let mut solver = Solver::under(instance, walks, options, ceiling, cube.path)?;
+) -> Result<Box<Solver<'i>>, CubeFault> {
     let guide = match cube.guide.or(cube.start) {
         Some(starts) => narrowed(alloc, starts)?,
         None => Vec::new(alloc),
@@ -184,6 +195,9 @@ fn solver_of<'i>(
         .iter()
         .map(|lemma| (lemma.lbd, lemma.arcs.as_slice()));
     let lemmas: Vec<(u32, &[Lag])> = lemmas.collect(alloc)?;
+    let options = limits.solver(0, cube.lemmas.len());
+    let solver = Solver::under(instance, walks, options, ceiling, cube.path)?;
+    let mut solver = boxed(solver)?;
     solver.prepare(&guide, &lemmas)?;
     Ok(solver)
 }
@@ -198,30 +212,15 @@ pub fn search_cube<R: Clock + Wait, H: Host, W: Write>(
     record: &mut W,
 ) -> Result<CubeResult, CubeFault> {
     let watch = Stopwatch::start(rt);
-    let mut link = CubeLink {
-        project: cube.project,
-        log: CubeLog::new(alloc)?,
-        ceiling: i32::MAX,
-        host,
-        record,
-        has_failed: false,
-    };
-    if let Some(starts) = cube.start {
-        link.log_schedule(&narrowed(alloc, starts)?)?;
-    }
+    let mut link = CubeLink::new(alloc, cube, host, record)?;
     let ceiling = cube.start.is_some().then_some(link.ceiling);
     let instance = Instance::new(alloc, cube.project)?;
     let walks = Walks::new(&instance)?;
     let mut solver = solver_of(alloc, &instance, &walks, cube, limits, ceiling)?;
     search(rt, limits, watch, &mut solver, &mut link)?;
-    link.leave(&mut solver)?;
     if link.has_failed {
         return Err(CubeFault::Record);
     }
-    let mut result = link.result(alloc, watch.seconds(rt).unwrap_or(0), &solver)?;
-    if cube.pieces > 1 && !result.is_refuted {
-        result.pieces = solver.split(cube.pieces.min(1_024) as usize)?;
-    }
-    result.lemmas = link.log.lemmas()?;
-    Ok(result)
+    let seconds = watch.seconds(rt).unwrap_or(0);
+    Ok(link.result(seconds, cube.pieces, &mut solver)?)
 }

@@ -1,20 +1,20 @@
 //! A job: a search, and the desk where its lemmas are proved. Nothing is promised of the search: what it says is for the
 //! desk and the book to judge.
 
-use crate::board::{Board, SharedFact, Waiting};
+use crate::board::{Board, Received, SharedFact, Waiting};
 use crate::host::{Host, Signal};
 use crate::limits::Limits;
-use crate::link::{Link, search};
+use crate::link::{Link, boxed, search};
 use crate::recorder::{Before, Recorder};
 use crate::starts::narrowed;
 use crate::watch::Stopwatch;
 use devices::Output;
-use instance::{Instance, Walks, narrow};
+use instance::{Instance, Result, Walks, narrow};
 use lemma_log::Event;
 use lemma_proof::Lags;
 use lemma_record::{Desk, Naming};
 use network::Project;
-use std::alloc::{AllocError, Global};
+use std::alloc::Global;
 use std::mem;
 use std::sync::{Mutex, Wait};
 use std::time::Clock;
@@ -40,23 +40,11 @@ fn is_for_desk(event: &Event) -> bool {
 }
 
 /// No other job uses the lemmas in these slots of a search.
-fn release(slots: &[usize], solver: &mut Solver<'_>) -> Result<(), AllocError> {
+fn release(slots: &[usize], solver: &mut Solver<'_>) -> Result<()> {
     for slot in slots {
         solver.release(narrow(*slot))?;
     }
     Ok(())
-}
-
-/// What a job gets from the board.
-#[derive(Drop)]
-pub(crate) struct Received {
-    goes_on: bool,
-    /// A schedule that is shorter than that of the search.
-    best: Option<Vec<i64>>,
-    /// Its slots that are free again.
-    free: Vec<usize>,
-    /// What others have proved.
-    facts: Vec<SharedFact>,
 }
 
 /// A job at the board of its session.
@@ -64,7 +52,8 @@ pub(crate) struct Received {
 pub(crate) struct SearchJob<'c, 'r, 'p, J: Naming> {
     context: &'c JobContext<'r, 'p, J>,
     number: usize,
-    desk: Desk<'p>,
+    /// In a box, as the drop of a desk is long to prove.
+    desk: Box<Desk<'p>>,
     /// The lemmas that wait on the desk.
     waiting: Vec<Waiting>,
     /// What waits for the book besides, and comes after them: arcs of the root, the end, and drops.
@@ -72,28 +61,28 @@ pub(crate) struct SearchJob<'c, 'r, 'p, J: Naming> {
 }
 
 impl<'c, 'r, 'p, J: Naming> SearchJob<'c, 'r, 'p, J> {
-    /// A job that has done nothing yet.
-    fn new(
+    /// A job whose search knows what is on the board.
+    fn start<R: Wait>(
+        rt: &R,
         context: &'c JobContext<'r, 'p, J>,
         number: usize,
-    ) -> Result<SearchJob<'c, 'r, 'p, J>, AllocError> {
+        solver: &mut Solver<'_>,
+    ) -> Result<SearchJob<'c, 'r, 'p, J>> {
         let alloc = context.alloc;
-        Ok(SearchJob {
+        let mut job = SearchJob {
             context,
             number,
-            desk: Desk::new(alloc, context.project)?,
+            desk: Box::new(alloc, Desk::new(alloc, context.project)?)?,
             waiting: Vec::new(alloc),
             steps: Vec::new(alloc),
-        })
+        };
+        job.trade(rt, solver)?;
+        Ok(job)
     }
 
-    /// Gives a board all that waits, with the best schedule of a search. What the board has for the search.
-    fn meet(
-        &mut self,
-        board: &mut Board<'_, J>,
-        solver: &Solver<'_>,
-    ) -> Result<Received, AllocError> {
-        let best = board.exchange_best(solver)?;
+    /// Gives a board all that waits, with the best schedule of a search.
+    fn give(&mut self, board: &mut Board<'_, J>, solver: &Solver<'_>) -> Result<()> {
+        board.take_best(solver)?;
         board.accept_all(self.number, &mut self.desk, &self.waiting, solver.shares())?;
         self.waiting.clear();
         for event in mem::replace(&mut self.steps, Vec::new(self.context.alloc)) {
@@ -106,22 +95,18 @@ impl<'c, 'r, 'p, J: Naming> SearchJob<'c, 'r, 'p, J> {
         if solver.state() == State::Ended {
             board.is_over = true;
         }
-        Ok(Received {
-            goes_on: !board.is_over,
-            best,
-            free: board.free_slots(self.number),
-            facts: board.facts(self.number, solver.shares())?,
-        })
+        Ok(())
     }
 
-    /// Meets the board once its lock is free.
-    fn meet_board<R: Wait>(&mut self, rt: &R, solver: &Solver<'_>) -> Result<Received, AllocError> {
+    /// Gives the board all that waits, once its lock is free. What it has for the search.
+    fn meet_board<R: Wait>(&mut self, rt: &R, solver: &Solver<'_>) -> Result<Received> {
         let mut board = self.context.board.lock(rt);
-        self.meet(&mut board, solver)
+        self.give(&mut board, solver)?;
+        board.news_for(self.number, solver)
     }
 
     /// Gives a search what the board has for it. Whether it goes on.
-    fn learn(&mut self, received: Received, solver: &mut Solver<'_>) -> Result<bool, AllocError> {
+    fn learn(&mut self, received: Received, solver: &mut Solver<'_>) -> Result<bool> {
         let Received {
             goes_on,
             best,
@@ -139,7 +124,7 @@ impl<'c, 'r, 'p, J: Naming> SearchJob<'c, 'r, 'p, J> {
     }
 
     /// Gives a search and the desk what another job has proved.
-    fn import(&mut self, fact: SharedFact, solver: &mut Solver<'_>) -> Result<(), AllocError> {
+    fn import(&mut self, fact: SharedFact, solver: &mut Solver<'_>) -> Result<()> {
         match fact {
             SharedFact::Lemma { slot, lbd, arcs } => {
                 solver.import(narrow(slot), lbd, &arcs)?;
@@ -151,13 +136,13 @@ impl<'c, 'r, 'p, J: Naming> SearchJob<'c, 'r, 'p, J> {
     }
 
     /// Meets the board, and gives the search what it has. Whether the search goes on.
-    fn trade<R: Wait>(&mut self, rt: &R, solver: &mut Solver<'_>) -> Result<bool, AllocError> {
+    fn trade<R: Wait>(&mut self, rt: &R, solver: &mut Solver<'_>) -> Result<bool> {
         let received = self.meet_board(rt, solver)?;
         self.learn(received, solver)
     }
 
     /// Proves a lemma at the desk, where it waits for the book.
-    fn prove(&mut self, event: Event, lbd: u32) -> Result<(), AllocError> {
+    fn prove(&mut self, event: Event, lbd: u32) -> Result<()> {
         let Event::Lemma { slot, arcs, lines } = event else {
             return Ok(());
         };
@@ -176,7 +161,7 @@ impl<'c, 'r, 'p, J: Naming> SearchJob<'c, 'r, 'p, J> {
         solver: &mut Solver<'_>,
         event: Event,
         lbd: u32,
-    ) -> Result<(), AllocError> {
+    ) -> Result<()> {
         if !is_for_desk(&event) {
             self.steps.push(event)?;
             return Ok(());
@@ -188,7 +173,7 @@ impl<'c, 'r, 'p, J: Naming> SearchJob<'c, 'r, 'p, J> {
     }
 
     /// Proves all that the search has found. The book knows its best schedule before.
-    fn prove_all<R: Wait>(&mut self, rt: &R, solver: &mut Solver<'_>) -> Result<(), AllocError> {
+    fn prove_all<R: Wait>(&mut self, rt: &R, solver: &mut Solver<'_>) -> Result<()> {
         self.trade(rt, solver)?;
         for _ in 0..u64::MAX {
             let events = solver.events()?;
@@ -201,32 +186,23 @@ impl<'c, 'r, 'p, J: Naming> SearchJob<'c, 'r, 'p, J> {
         }
         Ok(())
     }
+}
 
-    /// Leaves the board, with all that the search has found.
-    fn leave<R: Wait>(&mut self, rt: &R, solver: &mut Solver<'_>) -> Result<(), AllocError> {
+impl<J: Naming> Link for SearchJob<'_, '_, '_, J> {
+    fn listen<R: Clock + Wait>(&mut self, _rt: &R, _solver: &mut Solver<'_>) -> Result<bool> {
+        Ok(true)
+    }
+
+    fn exchange<R: Clock + Wait>(&mut self, rt: &R, solver: &mut Solver<'_>) -> Result<bool> {
+        self.prove_all(rt, solver)?;
+        self.trade(rt, solver)
+    }
+
+    fn leave<R: Clock + Wait>(&mut self, rt: &R, solver: &mut Solver<'_>) -> Result<()> {
         self.prove_all(rt, solver)?;
         self.meet_board(rt, solver)?;
         self.context.board.lock(rt).leave(solver);
         Ok(())
-    }
-}
-
-impl<J: Naming> Link for SearchJob<'_, '_, '_, J> {
-    fn listen<R: Clock + Wait>(
-        &mut self,
-        _rt: &R,
-        _solver: &mut Solver<'_>,
-    ) -> Result<bool, AllocError> {
-        Ok(true)
-    }
-
-    fn exchange<R: Clock + Wait>(
-        &mut self,
-        rt: &R,
-        solver: &mut Solver<'_>,
-    ) -> Result<bool, AllocError> {
-        self.prove_all(rt, solver)?;
-        self.trade(rt, solver)
     }
 }
 
@@ -239,11 +215,7 @@ struct FirstJob<'c, 'r, 'p, 'h, H: Host, D: Output, J: Naming + Before> {
 }
 
 impl<H: Host, D: Output, J: Naming + Before> Link for FirstJob<'_, '_, '_, '_, H, D, J> {
-    fn listen<R: Clock + Wait>(
-        &mut self,
-        rt: &R,
-        _solver: &mut Solver<'_>,
-    ) -> Result<bool, AllocError> {
+    fn listen<R: Clock + Wait>(&mut self, rt: &R, _solver: &mut Solver<'_>) -> Result<bool> {
         let context = self.job.context;
         self.recorder.record_more(rt, context.board);
         let signal = self.host.signal(context.project);
@@ -257,15 +229,15 @@ impl<H: Host, D: Output, J: Naming + Before> Link for FirstJob<'_, '_, '_, '_, H
         Ok(!board.is_over)
     }
 
-    fn exchange<R: Clock + Wait>(
-        &mut self,
-        rt: &R,
-        solver: &mut Solver<'_>,
-    ) -> Result<bool, AllocError> {
+    fn exchange<R: Clock + Wait>(&mut self, rt: &R, solver: &mut Solver<'_>) -> Result<bool> {
         let goes_on = self.job.exchange(rt, solver)?;
         let context = self.job.context;
         context.board.lock(rt).tell(rt, context.watch, self.host);
         Ok(goes_on)
+    }
+
+    fn leave<R: Clock + Wait>(&mut self, rt: &R, solver: &mut Solver<'_>) -> Result<()> {
+        self.job.leave(rt, solver)
     }
 }
 
@@ -273,9 +245,9 @@ impl<H: Host, D: Output, J: Naming + Before> Link for FirstJob<'_, '_, '_, '_, H
 fn solver_of<'r, J: Naming>(
     context: &JobContext<'r, '_, J>,
     number: u64,
-) -> Result<Solver<'r>, AllocError> {
+) -> Result<Box<Solver<'r>>> {
     let limits = context.limits.solver(number, context.slots);
-    Solver::new(context.instance, context.walks, limits)
+    boxed(Solver::new(context.instance, context.walks, limits)?)
 }
 
 /// Searches in the first job.
@@ -284,17 +256,14 @@ pub(crate) fn search_first<'c, R: Clock + Wait, H: Host, D: Output, J: Naming + 
     context: &'c JobContext<'_, '_, J>,
     host: &mut H,
     recorder: &'c mut Recorder<D, J>,
-) -> Result<(), AllocError> {
-    let mut job = SearchJob::new(context, 0)?;
+) -> Result<()> {
     let mut solver = solver_of(context, 0)?;
-    job.trade(rt, &mut solver)?;
     let mut first = FirstJob {
-        job,
+        job: SearchJob::start(rt, context, 0, &mut solver)?,
         host,
         recorder,
     };
-    search(rt, context.limits, context.watch, &mut solver, &mut first)?;
-    first.job.leave(rt, &mut solver)
+    search(rt, context.limits, context.watch, &mut solver, &mut first)
 }
 
 /// Searches in a job beside the first.
@@ -302,10 +271,8 @@ pub(crate) fn search_beside<R: Clock + Wait, J: Naming>(
     rt: &R,
     context: &JobContext<'_, '_, J>,
     number: u64,
-) -> Result<(), AllocError> {
-    let mut job = SearchJob::new(context, number as usize)?;
+) -> Result<()> {
     let mut solver = solver_of(context, number)?;
-    job.trade(rt, &mut solver)?;
-    search(rt, context.limits, context.watch, &mut solver, &mut job)?;
-    job.leave(rt, &mut solver)
+    let mut job = SearchJob::start(rt, context, number as usize, &mut solver)?;
+    search(rt, context.limits, context.watch, &mut solver, &mut job)
 }
