@@ -39,6 +39,7 @@ import logs
 import long_records
 import options
 import planted
+import psmax_options
 import records
 import reference_values
 import resumes
@@ -112,7 +113,8 @@ def scripts(folder: pathlib.Path, with_tests: bool) -> Iterator[Script]:
     yield "hostile logs", hostile.verdicts, [psprove, "--bytes", "160000", "--seconds", "5"]
     yield "hostile records", hostile_trees.verdicts, [psmax]
     yield "resumes", resumes.verdicts, [psprove]
-    yield "options", options.verdicts, [psprove]
+    yield "options", psmax_options.verdicts, [psmax]
+    yield "options of psprove", options.verdicts, [psprove]
     yield "searches", searches.verdicts, [psmax, psprove, "--seeded", "200", "--large", "10"]
     yield "cubes", cubes.verdicts, [psmax, psprove]
     drawn = ["--drawn", "50", "--seconds", "60"] if with_tests else []

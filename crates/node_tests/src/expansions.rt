@@ -30,9 +30,9 @@ fn room_after(
     Ok([made.children.capacity(), made.fates.capacity()])
 }
 
-/// The same of a new searcher at a node.
+/// The same of a new searcher at a node. It is in a box, as its drop is long to prove.
 fn room_at(alloc: Global, node: &Arc<OpenNode>, count: usize) -> Result<[usize; 2], AllocError> {
-    let mut searcher = Searcher::for_node(alloc, node)?;
+    let mut searcher = Box::new(alloc, Searcher::for_node(alloc, node)?)?;
     room_after(alloc, &mut searcher, node, count)
 }
 

@@ -1,4 +1,4 @@
-//! Tests of what a node is made of: matrices, heads and tails, overloads, sets, bounds and lists of children.
+//! Tests of what a node is made of: matrices, heads and tails, overloads, bounds and lists of children.
 //!
 //! They stand apart from the crates that they test, and use what these have public, since a crate with tests is proved
 //! twice.
@@ -13,8 +13,6 @@ mod matrices;
 #[cfg(test)]
 mod overloads;
 mod projects;
-#[cfg(test)]
-mod sets;
 #[cfg(test)]
 mod values;
 

@@ -5,14 +5,14 @@ use devices::FileNames;
 use psmax_run::Job;
 
 /// A job, and the names of its files.
-#[derive(Debug, Drop)]
+#[derive(Drop)]
 pub(crate) struct Call {
     pub(crate) job: Job,
     pub(crate) names: FileNames,
 }
 
 /// What words of psmax ask for.
-#[derive(Debug, Drop)]
+#[derive(Drop)]
 pub(crate) enum PsmaxCall {
     Run(Call),
     Verify(VerifyCall),

@@ -9,8 +9,6 @@ ghost use Rattle.std.specs.Prelude.{◌≡◌, false, true, IfOk};
 mod call;
 mod commands;
 mod help;
-#[cfg(test)]
-mod tests;
 
 use call::{Call, PsmaxCall};
 use command_line::{ArgumentsFault, FOLDER, read_arguments, refuse, refuse_files, report, verify};
