@@ -28,7 +28,7 @@ pub(super) struct WorkerRow<'a> {
 }
 
 /// What a row asks for: one worker, 100 takes and a gate that holds nobody unless it says more.
-pub(super) fn asked_by(row: &str) -> Result<WorkerRow<'_>, Fail> {
+pub(super) fn asked_by(row: &str) -> WorkerRow<'_> {
     let (project, rest) = row.split_once("; ").unwrap_or((row, ""));
     let mut asked = WorkerRow {
         project,
@@ -45,20 +45,21 @@ pub(super) fn asked_by(row: &str) -> Result<WorkerRow<'_>, Fail> {
     for part in rest.split(';') {
         let part = part.trim();
         let (word, value) = part.split_once(' ').unwrap_or((part, ""));
+        let number = value.parse::<u64>().unwrap_or(0);
         match word {
-            "workers" => asked.workers = value.parse::<usize>()?,
-            "takes" => asked.takes = value.parse::<u64>()?,
+            "workers" => asked.workers = number as usize,
+            "takes" => asked.takes = number,
             "start" => asked.starts = value,
             "recorded" => asked.recorded = true,
             "gate" => asked.holds = Holds::of(value),
-            "tells" => asked.tells = value.parse::<u64>()?,
-            "gives" => asked.gives_back = Some(value.parse::<u64>()?),
-            "ceiling" => asked.ceiling = Some(value.parse::<i64>()?),
-            "reports" => asked.lowered = value.parse::<u64>()?,
+            "tells" => asked.tells = number,
+            "gives" => asked.gives_back = Some(number),
+            "ceiling" => asked.ceiling = i64::try_from(number).ok(),
+            "reports" => asked.lowered = number,
             _ => {}
         }
     }
-    Ok(asked)
+    asked
 }
 
 /// The project of a name.

@@ -180,7 +180,7 @@ fn left_text(alloc: Global, left: &Left, asked: &WorkerRow<'_>) -> Result<String
 /// What is told of one worker on one machine. A row asks for what it wants to see, and for schedules that are offered
 /// meanwhile, and so on.
 pub(super) fn told<R: Wait>(rt: &R, alloc: Global, row: &str) -> Result<String, Fail> {
-    let asked = asked_by(row)?;
+    let asked = asked_by(row);
     let left = left_by::<Brand, Brand, _>(rt, alloc, Blanks::new(1), &asked)?;
     left_text(alloc, &left, &asked)
 }

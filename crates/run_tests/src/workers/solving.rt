@@ -123,7 +123,7 @@ pub(super) fn told<R: Threads + Wait + Sync>(
     alloc: Global,
     row: &str,
 ) -> Result<String, Fail> {
-    let asked = asked_by(row)?;
+    let asked = asked_by(row);
     let gate = HoldingGate::new(asked.holds);
     match searched(rt, alloc, &asked, &gate)? {
         Ok((solved, trail)) => Ok(solved_text(alloc, &solved, trail, gate.seen())?),
