@@ -33,6 +33,7 @@ import fuzz
 import harness
 import hostile
 import hostile_trees
+import interrupted
 import lint
 import log_parts
 import logs
@@ -135,6 +136,7 @@ def scripts(folder: pathlib.Path, with_tests: bool) -> Iterator[Script]:
     yield "devices of psprove", devices.verdicts, [psprove, "--proofs"]
     yield "long records that fail", long_records.verdicts, [psprove]
     yield "plan", planner_tests.verdicts, []
+    yield "kills and power cuts", interrupted.verdicts, [psprove]
     yield "package", planner_tests.verdicts, [str(TOP / "python" / "tests")]
     yield "documents", documents.verdicts, [str(folder)]
 

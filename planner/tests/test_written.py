@@ -6,7 +6,7 @@ from unittest import mock
 from psmax import files
 from psmax.errors import Failed
 
-from .helpers import InFolder
+from .helpers import INPUTS, InFolder, plan
 
 
 class Written(InFolder):
@@ -44,3 +44,12 @@ class Written(InFolder):
             with self.assertRaisesRegex(Failed, "cannot write .*: no space left on device"):
                 files.write_whole(str(path), b"after")
         self.assertEqual([(path.name, path.read_text()) for path in self.folder.iterdir()], [("there", "before")])
+
+    def test_an_answer_on_a_full_disk(self) -> None:
+        """It is printed, and the plan before stays."""
+        out = self.file("best", "0 0\n1 0\n2 5\n3 9\n")
+        with mock.patch("psmax.files.os.fsync", side_effect=OSError(28, "No space left on device")):
+            ran = plan("solve", INPUTS / "two-jobs.sch", "--out", out)
+        self.assertEqual((ran.returncode, ran.stdout.splitlines()[0], out.read_text()), (1, "optimal 7", "0 0\n1 0\n2 5\n3 9\n"))
+        self.assertIn("no space left on device", ran.stderr.splitlines()[-1])
+        self.assertEqual([path.name for path in self.folder.iterdir()], ["best"])

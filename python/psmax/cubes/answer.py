@@ -19,7 +19,7 @@ class Strange(Exception):
     """An answer that can't be one of a search."""
 
 
-def checked(row: object, folder: pathlib.Path, ends: int) -> Row:
+def checked(row: object, folder: pathlib.Path, number: int, ends: int) -> Row:
     """The answer with its files as bytes, or none where they lie in the folder. Starts are those of activities 0 to `ends`."""
     try:
         assert isinstance(row, dict)
@@ -30,7 +30,7 @@ def checked(row: object, folder: pathlib.Path, ends: int) -> Row:
         assert found["starts"] is None or len([*map(whole, found["starts"])]) == ends + 1
         names = sorted(one["name"] for one in found["pieces"])
         assert names in ([], [""]) or are_all(names)
-        return found | {"files": {kind: file(row["files"][kind], folder, kind) for kind in MADE}}
+        return found | {"files": {kind: file(row["files"][kind], folder, number, kind) for kind in MADE}}
     except (AssertionError, LookupError, TypeError, ValueError, OverflowError, zlib.error) as fault:
         raise Strange(f"{STRANGE}" + (f": {fault}" if isinstance(fault, ValueError) else "")) from None
 
@@ -53,12 +53,17 @@ def piece(told: Row) -> Row:
     return {"name": told["name"], "arcs": arcs}
 
 
-def file(told: Row, folder: pathlib.Path, kind: str) -> Row:
+def left(number: int, sha256: str, kind: str) -> str:
+    """What a worker that sees the folder calls a file there."""
+    return f"{INCOMING}/{number}-{sha256}.{kind}"
+
+
+def file(told: Row, folder: pathlib.Path, number: int, kind: str) -> Row:
     """The name of a file in the folder is made of its digest, which is that of its bytes."""
     sha256, packed = told["sha256"], told["data"]
     assert SHA256.fullmatch(sha256)
     if packed is None:
-        found = digest_of(folder / INCOMING / f"{sha256}.{kind}")
+        found = digest_of(folder / left(number, sha256, kind))
         data = None
     else:
         data = unpacked(packed)

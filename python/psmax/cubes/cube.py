@@ -115,7 +115,7 @@ def say(child: subprocess.Popen[bytes], line: str) -> None:
 
 def sent(task: Row, here: pathlib.Path) -> Row:
     """The files that were made, by their digests. Where this machine sees the driver's folder they are left there, under names
-    that their digests make, and otherwise they come with the answer."""
+    that the number of the search and their digests make, and otherwise they come with the answer."""
     incoming, found = pathlib.Path(task["folder"], "incoming"), {}
     sees = is_seen(task)
     for file in MADE:
@@ -123,7 +123,7 @@ def sent(task: Row, here: pathlib.Path) -> Row:
         sha256 = hashlib.sha256(data).hexdigest()
         found[file] = {"sha256": sha256, "data": None if sees else zlib.compress(data, 1)}
         if sees:
-            leave(incoming, f"{sha256}.{file}", data)
+            leave(incoming, f"{task['number']}-{sha256}.{file}", data)
     return found
 
 

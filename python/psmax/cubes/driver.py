@@ -134,7 +134,7 @@ class Driver:
         try:
             if isinstance(row, Exception):
                 raise row
-            row = answer.checked(row, self.tree.folder, self.spelled.end)
+            row = answer.checked(row, self.tree.folder, number, self.spelled.end)
         except Exception as fault:
             self.tree.write("lost", number=number)
             return self.fail(name, fault)

@@ -5,7 +5,7 @@ project.sch   the project
 rows          a line of JSON for each step: the first search has ended, a driver has begun, a cube is given out, its search
               has ended or is lost, its log is damaged, or its logs are put aside. Each has a checksum
 cubes/N.log   what search N proves; N.import has the lemmas that it got, and N.lemmas its own. Rows have their SHA-256
-incoming      files on their way there, by their SHA-256
+incoming      files on their way there, by the numbers of their searches and their SHA-256
 token         the run's: a worker that reads it sees the folder, and leaves its files there
 tree          the logs, for `psprove join`
 start         the shortest schedule, for the same
@@ -20,8 +20,9 @@ from dataclasses import dataclass, replace
 
 from ..errors import BadInput
 from . import folder as folders
+from .answer import left
 from .cube import MADE, TOLD, Row
-from .folder import CUBES, INCOMING, PROJECT, ROWS, digest, digest_of, write
+from .folder import CUBES, PROJECT, ROWS, digest, digest_of, write
 
 WHOLE = "-"  # what the cube without a path is called by psprove
 SUM = ', "sum": "'  # before the checksum of a row
@@ -260,7 +261,7 @@ class Driven(Tree):
         for kind in MADE:
             sha256, data = row["files"][kind]["sha256"], row["files"][kind]["data"]
             if data is None:
-                folders.take(self.folder / INCOMING / f"{sha256}.{kind}", self.file(number, kind))
+                folders.take(self.folder / left(number, sha256, kind), self.file(number, kind))
             else:
                 write(self.file(number, kind), data)
         told = {key: row[key] for key in (*TOLD, "seconds") if key != "cube"}
