@@ -50,6 +50,7 @@ class Written(InFolder):
         out = self.file("best", "0 0\n1 0\n2 5\n3 9\n")
         with mock.patch("psmax.files.os.fsync", side_effect=OSError(28, "No space left on device")):
             ran = plan("solve", INPUTS / "two-jobs.sch", "--out", out)
-        self.assertEqual((ran.returncode, ran.stdout.splitlines()[0], out.read_text()), (1, "optimal 7", "0 0\n1 0\n2 5\n3 9\n"))
+        found = ran.returncode, ran.stdout.splitlines()[0], out.read_text()
+        self.assertEqual(found, (1, "optimal 7", "0 0\n1 0\n2 5\n3 9\n"))
         self.assertIn("no space left on device", ran.stderr.splitlines()[-1])
         self.assertEqual([path.name for path in self.folder.iterdir()], ["best"])
