@@ -3,7 +3,7 @@
 
 Tries the wrong bodies that the gate doesn't try, side by side on copies of the crates: all of tests/wrong, or those of one
 crate, or those whose names have a word. Each stands in the folder of the crate that it changes, with the lines of a must-fail
-edit and a line that says what refuses it:
+edit, whose paths are from the top of the repository, and a line that says what refuses it:
 
   proof: FUNCTION           the function doesn't meet its contract
   test: CRATE TEST          a test of a crate fails, which `rt try --test` runs without proofs
@@ -90,7 +90,7 @@ def tried(copy: pathlib.Path, body: Body) -> str:
     """What comes of a body in a copy of the crates."""
     ways = {"proof": by_check, "nothing": by_check, "test": by_test, "script": by_script}
     try:
-        with wrong_bodies.changed(copy / "crates", body):
+        with wrong_bodies.changed(copy, body):
             return ways[body.by](copy, body)
     except (OSError, ValueError) as fault:
         return f"not tried: {fault}"

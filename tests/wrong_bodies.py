@@ -13,7 +13,7 @@ BODIES = TOP / "tests" / "wrong"
 
 
 class Change(NamedTuple):
-    file: str  # in the folder of the crate
+    file: str  # from the top of the repository
     old: str
     new: str
 
@@ -85,21 +85,21 @@ def write_edit(copy: pathlib.Path, body: Body) -> None:
     """Makes a body a must-fail edit of its crate in a copy."""
     folder = copy / "crates" / body.crate / "must-fail"
     folder.mkdir(exist_ok=True)
-    lines = (f"file: {file}\nold: {old}\nnew: {new}\n" for file, old, new in body.changes)
+    own = f"crates/{body.crate}/"
+    lines = (f"file: {file.removeprefix(own)}\nold: {old}\nnew: {new}\n" for file, old, new in body.changes)
     (folder / f"{body.name}.edit").write_text("".join(lines))
 
 
 @contextlib.contextmanager
-def changed(crates: pathlib.Path, body: Body) -> Iterator[None]:
-    """A copy of the crates with the changes of a body, and then as it was."""
-    folder = crates / body.crate
-    texts = {folder / change.file: (folder / change.file).read_text() for change in body.changes}
+def changed(copy: pathlib.Path, body: Body) -> Iterator[None]:
+    """A copy with the changes of a body, and then as it was."""
+    texts = {copy / change.file: (copy / change.file).read_text() for change in body.changes}
     try:
         for file, old, new in body.changes:
-            text = (folder / file).read_text()
+            text = (copy / file).read_text()
             if text.count(old) != 1:
                 raise ValueError(f"{body}: {file} has {old!r} {text.count(old)} times")
-            (folder / file).write_text(text.replace(old, new))
+            (copy / file).write_text(text.replace(old, new))
         yield
     finally:
         for path, text in texts.items():
