@@ -22,6 +22,7 @@ HARD = networks.project(100, 1, 0).text()  # takes some thousand conflicts
 LONG = shutdown.project(300, 1).text()  # has long lemmas
 EASY = harness.seeded(10, 1)[1]  # is solved within a second
 CONFLICTS = 400
+PATIENCE = 300  # seconds of a run: a program that looks at each of its accesses is slow
 JOBS = 3
 PROGRESS = "--progress", "json"
 
@@ -36,7 +37,7 @@ class Search:
         self.program, self.folder, self.text = program, folder, text
 
     def ended(self, *words: object) -> harness.Ended:
-        return harness.ended([self.program, "solve", "--json", *words], self.text, cwd=self.folder)
+        return harness.ended([self.program, "solve", "--json", *words], self.text, PATIENCE, cwd=self.folder)
 
     def answer(self, *words: object) -> Answer:
         found: Answer = json.loads(self.ended(*words)[1])
@@ -105,7 +106,7 @@ def limits_end(search: Search) -> Looked:
 def lemmas_fit_the_memory(search: Search) -> Looked:
     """One MiB is less than the lemmas of so many conflicts take, so some are dropped earlier."""
     long = Search(search.program, search.folder, LONG)
-    records = [long.record("--conflicts", 20 * CONFLICTS, "--memory", memory) for memory in (1, 256, 512)]
+    records = [long.record("--conflicts", 12 * CONFLICTS, "--memory", memory) for memory in (1, 256, 512)]
     yield "one MiB is less than the lemmas take", records[0] != records[1], len(records[0])
     yield "256 MiB are enough", records[1] == records[2] != b"", len(records[1])
 
