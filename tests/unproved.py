@@ -34,7 +34,7 @@ def build(crate: pathlib.Path, program: pathlib.Path) -> bool:
                 # A second name keeps the file once `rt try` has removed the first.
                 with contextlib.suppress(FileExistsError, FileNotFoundError):
                     os.link(built, kept)
-            time.sleep(0.05)
+            time.sleep(0.002)  # the program runs for some hundredths of a second
     program.write_text(RUN.format(libraries=libraries(), program=kept))
     program.chmod(0o755)
     return kept.exists()
