@@ -14,7 +14,7 @@ Where a crate has five proofs to try or more, `rt ci` tries them as must-fail ed
 single one is tried by tests/check_one.py.
 
 Prints a line for each: what refused it, or that it was let through. A run that was stopped goes on: `rt ci` keeps what it
-tried, and build/wrong.jsonl keeps the rest while the crate and those below stay as they are. --anew tries all again. The
+tried, and build/wrong.jsonl keeps the rest while the crate and those below stay as they are. --anew forgets that file. The
 last line counts the bodies that came to what their line says."""
 import json
 import os
@@ -108,12 +108,10 @@ def by_edits(folder: pathlib.Path, bodies: Sequence[Body]) -> Found:
         for match in filter(None, map(TRIED.match, ran.stdout or [])):
             crate, name, said = match.groups()
             how, _, why = said.partition(": ")
-            if said.startswith("NOT REFUSED"):
-                yield named.pop((crate, name)), LET_THROUGH
-            elif how == "refused, as it must be":
-                yield named.pop((crate, name)), f"refused: {why}"
-            else:
-                yield named.pop((crate, name)), f"not tried: {said}"
+            if (crate, name) not in named:
+                continue  # it is told twice
+            found = f"refused: {why}" if how == "refused, as it must be" else f"not tried: {said}"
+            yield named.pop((crate, name)), LET_THROUGH if said.startswith("NOT REFUSED") else found
     yield from ((body, "not tried: rt ci ended before") for body in named.values())
 
 
