@@ -125,14 +125,21 @@ impl Engine<'_> {
                 return Ok(event);
             }
             let reason = self.trail.event(event).reason;
-            if let Reason::Lemma { place } = reason {
-                self.lemmas.touch(place);
-            }
+            self.reward(reason);
             let reason = self.explain(literal, reason, event)?;
             self.marks.replace(event, Inference { literal, reason })?;
             count = count.wrapping_sub(1).wrapping_add(self.note_found(top)?);
         }
         Ok(0)
+    }
+
+    /// An analysis uses what followed for a reason.
+    fn reward(&mut self, reason: Reason) {
+        match reason {
+            Reason::Lemma { place } => self.lemmas.touch(place),
+            Reason::Edge { clique, .. } => self.cliques.pay(clique),
+            _ => {}
+        }
     }
 
     /// The nogood: of lower levels what does not follow from the rest. Gives the literal of the unique point.
@@ -221,9 +228,41 @@ impl Engine<'_> {
             || self.marks.is_hard(event, literal.value)
     }
 
+    /// Whether lags of the root imply one bound by another one.
+    fn implies(&self, by: Literal, literal: Literal) -> bool {
+        let (own, other) = (literal.variable(), by.variable());
+        let (from, to) = if literal.is_lower() {
+            (other, own)
+        } else {
+            (own, other)
+        };
+        own.max(other) < self.instance.count()
+            && own != other
+            && by.is_lower() == literal.is_lower()
+            && self
+                .walks
+                .reaches(from, to, literal.value.wrapping_sub(by.value))
+    }
+
+    /// Leaves out of the nogood what its other literals, or the first one, imply by lags.
+    fn leave_implied(&mut self, first: Literal) {
+        for at in (0..self.marks.nogood.len()).rev() {
+            let nogood = &self.marks.nogood;
+            let Some(literal) = nogood.get(at).copied() else {
+                break;
+            };
+            let is_implied = self.implies(first, literal)
+                || nogood.iter().any(|by: &Literal| self.implies(*by, literal));
+            if is_implied {
+                self.marks.nogood.swap_remove(at);
+            }
+        }
+    }
+
     /// Puts the first literal before the nogood, and one of the last level of the others second. Gives this level, and how
     /// many levels there are; each of several first decisions counts, and all of a path as one.
     fn put_in_order(&mut self, first: Literal) -> Result<(u32, u32)> {
+        self.leave_implied(first);
         self.marks.keep_greatest(first);
         let levels = self.levels()?;
         let (mut level, mut second) = (0, 0);

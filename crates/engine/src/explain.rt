@@ -8,7 +8,7 @@ use propagation::{Conflict, Literal, NEVER, Reason, part};
 
 impl Engine<'_> {
     /// The literals that make an activity run for `part` periods from one time to another at least.
-    fn inside(&self, activity: u32, part: i32, from: i32, to: i32) -> [Literal; 2] {
+    pub(crate) fn inside(&self, activity: u32, part: i32, from: i32, to: i32) -> [Literal; 2] {
         let rest = part.wrapping_sub(self.instance.durations[activity]);
         [
             Literal::at_least(activity, from.wrapping_add(rest)),
@@ -17,7 +17,7 @@ impl Engine<'_> {
     }
 
     /// An activity is among the causes, with an amount, if its literals held before `now`. Gives the amount.
-    fn note_cause(
+    pub(crate) fn note_cause(
         &mut self,
         activity: u32,
         amount: i32,
@@ -87,6 +87,14 @@ impl Engine<'_> {
                 Ok(LineReason::Arcs)
             }
             Reason::Lost { order } => self.explain_lost(order, now),
+            Reason::Implied { slot } => {
+                self.marks.found.push(Literal::order(slot))?;
+                Ok(LineReason::Force)
+            }
+            Reason::Through { via } => self.explain_through(literal, via),
+            Reason::Edge { clique, from, to } => {
+                self.explain_edge(literal, clique, from, to, now)
+            }
             Reason::Pushed { clique, time } => self.explain_push(literal, clique, time, now),
             Reason::Full { resource, time } => self.explain_full(literal, resource, time, now),
         }
@@ -108,11 +116,11 @@ impl Engine<'_> {
         let mut sum = 0i32;
         self.marks.causes.items.clear();
         let running = &mut self.marks.activities.items;
-        self.table.profile.list_running(time, running)?;
+        self.table.list_running(resource, time, running)?;
         for at in 0..self.marks.activities.count() {
             let activity = self.marks.activities[at];
             let demand = self.instance.demand(activity, resource);
-            if demand > 0 && own.variable() != activity {
+            if own.variable() != activity {
                 let literals = self.inside(activity, 1, time, time.wrapping_add(1));
                 let less = self.note_cause(activity, demand.wrapping_neg(), literals, now)?;
                 sum = sum.wrapping_sub(less);
@@ -257,42 +265,11 @@ impl Engine<'_> {
     }
 
     /// The reason of a record's line, by the members that are needed. One alone pushes by its arc.
-    fn clique_reason(&mut self, from: i32, to: i32) -> Result<LineReason> {
+    pub(crate) fn clique_reason(&mut self, from: i32, to: i32) -> Result<LineReason> {
         if self.marks.activities.count() < 2 {
             return Ok(LineReason::Arcs);
         }
         let members = self.log.set(&self.marks.activities.items)?;
         Ok(LineReason::Clique { members, from, to })
-    }
-
-    /// Lists the members of a clique that run from one time to another. Gives how long they take.
-    fn list_inside(&mut self, clique: u32, from: i32, to: i32) -> Result<i32> {
-        let mut sum = 0i32;
-        self.marks.causes.items.clear();
-        for at in self.cliques.members.numbers(clique) {
-            let activity = self.cliques.members.values[at];
-            let duration = self.instance.durations[activity];
-            let [least, greatest] = self.inside(activity, duration, from, to);
-            if self.trail.holds(least) && self.trail.holds(greatest) {
-                let added = self.note_cause(activity, duration, [least, greatest], u32::MAX)?;
-                sum = sum.wrapping_add(added);
-            }
-        }
-        Ok(sum)
-    }
-
-    /// Members of a clique that have to run from one time to another, and need more time.
-    fn explain_clique(&mut self, clique: u32, from: i32, to: i32) -> Result<LineReason> {
-        let sum = self.list_inside(clique, from, to)?;
-        let spare = self.marks.keep_enough(sum, to.wrapping_sub(from))?;
-        let from = from.wrapping_sub(spare).max(0);
-        self.marks.activities.items.sort_unstable();
-        for at in 0..self.marks.activities.count() {
-            let activity = self.marks.activities[at];
-            let duration = self.instance.durations[activity];
-            let literals = self.inside(activity, duration, from, to);
-            self.marks.find(literals)?;
-        }
-        self.clique_reason(from, to)
     }
 }

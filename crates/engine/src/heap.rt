@@ -6,11 +6,24 @@ use std::alloc::Global;
 /// The place of a number that isn't in the heap.
 const OUTSIDE: u32 = u32::MAX;
 
+/// A number in the heap, with its weight.
+#[derive(Clone, Copy)]
+struct Entry {
+    weight: f64,
+    number: u32,
+}
+
+/// No number.
+const NO_ENTRY: Entry = Entry {
+    weight: 0.0,
+    number: 0,
+};
+
 /// Numbers from 0 on with weights, and a heap of some of them.
 #[derive(Drop)]
 pub(crate) struct Heap {
     pub(crate) weights: Table<f64>,
-    heap: Table<u32>,
+    heap: Table<Entry>,
     /// By number: its place in the heap.
     places: Table<u32>,
 }
@@ -20,7 +33,7 @@ impl Heap {
     pub(crate) fn new(alloc: Global) -> Heap {
         Heap {
             weights: Table::new(alloc, 0.0),
-            heap: Table::new(alloc, 0),
+            heap: Table::new(alloc, NO_ENTRY),
             places: Table::new(alloc, OUTSIDE),
         }
     }
@@ -35,18 +48,19 @@ impl Heap {
 
     /// A number comes into the heap.
     pub(crate) fn insert(&mut self, number: u32) -> Result<()> {
-        let at = self.heap.count();
-        self.heap.push(number)?;
-        self.move_up(at, number);
+        let (at, weight) = (self.heap.count(), self.weights[number]);
+        self.heap.push(Entry { weight, number })?;
+        self.move_up(at, Entry { weight, number });
         Ok(())
     }
 
     /// A number's weight grows.
     pub(crate) fn raise(&mut self, number: u32, by: f64) {
-        self.weights[number] = self.weights[number] + by;
+        let weight = self.weights[number] + by;
+        self.weights[number] = weight;
         let at = self.places[number];
         if at != OUTSIDE {
-            self.move_up(at, number);
+            self.move_up(at, Entry { weight, number });
         }
     }
 
@@ -55,14 +69,17 @@ impl Heap {
         for weight in &mut self.weights.items {
             *weight = *weight / by;
         }
+        for entry in &mut self.heap.items {
+            entry.weight = entry.weight / by;
+        }
     }
 
     /// Takes the heaviest number out of the heap.
     pub(crate) fn take_top(&mut self) -> Option<u32> {
         let last = self.heap.items.pop()?;
-        let mut top = last;
+        let mut top = last.number;
         if self.heap.count() > 0 {
-            top = self.heap[0];
+            top = self.heap[0].number;
             self.move_down(last);
         }
         self.places[top] = OUTSIDE;
@@ -70,47 +87,51 @@ impl Heap {
     }
 
     /// A number stands at a place of the heap.
-    fn put(&mut self, at: u32, number: u32) {
-        self.heap[at] = number;
-        self.places[number] = at;
-    }
-
-    /// The weight of the number at a place of the heap.
-    fn weight_at(&self, at: u32) -> f64 {
-        self.weights[self.heap[at]]
+    #[inline(always)]
+    fn put(&mut self, at: u32, entry: Entry) {
+        self.heap[at] = entry;
+        self.places[entry.number] = at;
     }
 
     /// A number moves up from a place to where none above has a lesser weight.
-    fn move_up(&mut self, from: u32, number: u32) {
-        let (mut at, weight) = (from, self.weights[number]);
+    fn move_up(&mut self, from: u32, entry: Entry) {
+        let mut at = from;
         for _ in 0..32 {
-            let above = at.saturating_sub(1) / 2;
+            if at == 0 {
+                break;
+            }
+            let above = at.wrapping_sub(1) / 2;
             let other = self.heap[above];
-            if at == 0 || self.weights[other] >= weight {
+            if other.weight >= entry.weight {
                 break;
             }
             self.put(at, other);
             at = above;
         }
-        self.put(at, number);
+        self.put(at, entry);
     }
 
     /// A number moves down from the top to where none below has a greater weight.
-    fn move_down(&mut self, number: u32) {
-        let (mut at, weight) = (0u32, self.weights[number]);
+    fn move_down(&mut self, entry: Entry) {
+        let mut at = 0u32;
         for _ in 0..32 {
             let mut below = at.wrapping_mul(2).wrapping_add(1);
-            let other = below.wrapping_add(1);
-            if other < self.heap.count() && self.weight_at(other) > self.weight_at(below) {
-                below = other;
-            }
-            if below >= self.heap.count() || self.weight_at(below) <= weight {
+            if below >= self.heap.count() {
                 break;
             }
-            let other = self.heap[below];
-            self.put(at, other);
+            let (mut found, next) = (self.heap[below], below.wrapping_add(1));
+            if next < self.heap.count() {
+                let other = self.heap[next];
+                if other.weight > found.weight {
+                    (found, below) = (other, next);
+                }
+            }
+            if found.weight <= entry.weight {
+                break;
+            }
+            self.put(at, found);
             at = below;
         }
-        self.put(at, number);
+        self.put(at, entry);
     }
 }

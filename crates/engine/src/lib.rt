@@ -8,6 +8,7 @@
 mod analysis;
 mod choices;
 mod explain;
+mod explain_cliques;
 mod heap;
 mod imports;
 mod log;

@@ -22,6 +22,8 @@ pub enum LineReason {
     Load { resource: u32, from: i32, to: i32 },
     /// The members of a clique, a set that the log keeps, need more time than there is from one time to another.
     Clique { members: u32, from: i32, to: i32 },
+    /// The same members would, in the other order of two of them.
+    Edge { members: u32, from: i32, to: i32 },
 }
 
 /// A literal, and why it follows.
@@ -119,7 +121,7 @@ impl<'a> Log<'a> {
     }
 
     /// The activities of the literal of an order, the one that is first before the other.
-    fn order_of(&self, literal: Literal) -> Option<(u32, u32)> {
+    pub(crate) fn order_of(&self, literal: Literal) -> Option<(u32, u32)> {
         let place = literal.variable().checked_sub(self.instance.count())?;
         let Rivals { first, second } = self.pairs.get(place as usize).copied()?;
         Some(if literal.is_lower() {
@@ -139,14 +141,20 @@ impl<'a> Log<'a> {
         }
     }
 
-    /// The arc of a literal in a lemma. That of an order says only that the second activity does not end before the
-    /// first one starts: so the lemma's reverse is the whole of the other order.
+    /// What is left of an order's arc where the first activity need not end: the second does not end before the first one
+    /// starts. Its reverse is the whole of the other order.
+    fn not_after(&self, order: Edge) -> Lag {
+        let weight = 1i32.wrapping_sub(self.instance.durations[order.to]);
+        lag(Edge { weight, ..order })
+    }
+
+    /// The arc of a literal in a lemma, whose reverse is the whole of the other order.
     fn supposed(&self, literal: Literal) -> Lag {
-        let mut edge = self.arc(literal);
-        if self.order_of(literal).is_some() {
-            edge.weight = 1i32.wrapping_sub(self.instance.durations[edge.to]);
+        let edge = self.arc(literal);
+        match self.order_of(literal) {
+            Some(_) => self.not_after(edge),
+            None => lag(edge),
         }
-        lag(edge)
     }
 
     /// The arc of a decision that is one side of a split: the arcs of two sides are each other's reverse.
@@ -157,34 +165,54 @@ impl<'a> Log<'a> {
         }
     }
 
-    /// Adds the line that shows an arc, or that none is left. What arcs alone show needs none.
+    /// Adds the lines that show an arc, or that none is left. What arcs alone show needs none.
     fn put(&self, lines: &mut Vec<Line>, reason: LineReason, edge: Option<Edge>) -> Result<()> {
-        let over = match reason {
-            LineReason::Arcs => return Ok(()),
-            LineReason::Force => {
-                if let Some(edge) = edge {
-                    lines.push(force(edge))?;
-                }
-                return Ok(());
-            }
+        let arc = edge.map(lag);
+        match reason {
+            LineReason::Arcs => Ok(()),
+            LineReason::Force => self.put_force(lines, edge),
             LineReason::Use { lemma } => {
                 lines.push(Line::Use(lemma as usize))?;
-                return Ok(());
+                Ok(())
             }
-            LineReason::Load { resource, from, to } => WindowOverload::Load {
-                resource: resource as usize,
-                from: i64::from(from),
-                to: i64::from(to),
-            },
-            LineReason::Clique { members, from, to } => WindowOverload::Clique {
-                from: i64::from(from),
-                to: i64::from(to),
-                members: self.members(members)?,
-            },
-        };
-        let arc = edge.map(lag);
-        lines.push(Line::Push { arc, over })?;
+            LineReason::Load { resource, from, to } => {
+                let over = WindowOverload::Load {
+                    resource: resource as usize,
+                    from: i64::from(from),
+                    to: i64::from(to),
+                };
+                lines.push(Line::Push { arc, over })?;
+                Ok(())
+            }
+            LineReason::Clique { members, from, to } => {
+                let over = self.clique(members, from, to)?;
+                lines.push(Line::Push { arc, over })?;
+                Ok(())
+            }
+            LineReason::Edge { members, from, to } => {
+                let over = self.clique(members, from, to)?;
+                let arc = edge.map(|order| self.not_after(order));
+                lines.push(Line::Push { arc, over })?;
+                self.put_force(lines, edge)
+            }
+        }
+    }
+
+    /// Adds the line that says that the other order does not fit.
+    fn put_force(&self, lines: &mut Vec<Line>, edge: Option<Edge>) -> Result<()> {
+        if let Some(edge) = edge {
+            lines.push(force(edge))?;
+        }
         Ok(())
+    }
+
+    /// The members of a set have to run from one time to another.
+    fn clique(&self, members: u32, from: i32, to: i32) -> Result<WindowOverload> {
+        Ok(WindowOverload::Clique {
+            from: i64::from(from),
+            to: i64::from(to),
+            members: self.members(members)?,
+        })
     }
 
     /// The members of a set of a clique.
@@ -272,7 +300,7 @@ impl<'a> Log<'a> {
 
     /// The arcs of the literals of a lemma.
     fn supposed_all(&self, nogood: &[Literal]) -> Result<Vec<Lag>> {
-        let mut arcs = Vec::new(self.instance.alloc);
+        let mut arcs = Vec::with_capacity(self.instance.alloc, nogood.len())?;
         for literal in nogood {
             arcs.push(self.supposed(*literal))?;
         }
@@ -281,7 +309,8 @@ impl<'a> Log<'a> {
 
     /// The lines of a lemma: those of its literals, and then those of what follows from them.
     fn lines_of(&self, nogood: &[Literal], links: &[(u32, Inference)]) -> Result<Vec<Line>> {
-        let mut lines = Vec::new(self.instance.alloc);
+        let most = nogood.len().saturating_add(links.len());
+        let mut lines = Vec::with_capacity(self.instance.alloc, most)?;
         for literal in nogood {
             if self.order_of(*literal).is_some() {
                 lines.push(force(self.arc(*literal)))?;

@@ -220,9 +220,16 @@ impl Engine<'_> {
     /// Looks at energy and at long cliques, where a supposed end, a path or nothing is all that is decided.
     fn find_overloads(&mut self, first: &[Literal]) -> Result<(), Stop> {
         let is_short = first.len() < 2 || self.has_path;
-        if is_short && self.trail.level() as usize <= first.len().min(1) {
+        let is_near = is_short && self.trail.level() as usize <= first.len().min(1);
+        let place = (
+            self.trail.count(),
+            self.trail.root_end(),
+            first.first().copied(),
+        );
+        if is_near && self.seen != Some(place) {
             find_overloads(self.instance, &self.trail)?;
             self.cliques.find_overloads(&self.trail)?;
+            self.seen = Some(place);
         }
         Ok(())
     }

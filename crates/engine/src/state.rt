@@ -6,7 +6,7 @@ use crate::marks::Marks;
 use crate::search::conflict_of;
 use crate::{LineReason, Log, Slots};
 use instance::{
-    Instance, Result, Rows, Settled, Table, Walks, greedy_cliques, settle, start_sequence,
+    Edge, Instance, Result, Rows, Settled, Table, Walks, greedy_cliques, settle, start_sequence,
 };
 use propagation::{Cliques, Edges, Lemmas, Literal, Stop, TimeTable, Trail};
 
@@ -43,6 +43,8 @@ const FIRST_REDUCTION: u64 = 2_000;
 #[derive(Drop)]
 pub struct Engine<'a> {
     pub(crate) instance: &'a Instance,
+    /// The longest walks over lags and settled orders.
+    pub(crate) walks: Walks,
     pub(crate) trail: Trail,
     pub(crate) edges: Edges,
     pub(crate) table: TimeTable<'a>,
@@ -61,6 +63,8 @@ pub struct Engine<'a> {
     queue: u32,
     /// How many changes the time table had when each level began.
     table_marks: Table<u32>,
+    /// Where energy was looked at last and there was enough: how many events there were, how many of the root, and what was supposed.
+    pub(crate) seen: Option<(u32, u32, Option<Literal>)>,
     /// Whether no schedule is left.
     pub is_refuted: bool,
     /// 1 where several first decisions stand on the first level, else 0.
@@ -197,17 +201,27 @@ impl<'a> Engine<'a> {
     /// A search for schedules, over the longest walks. It looks at all that follows at the root.
     pub fn open(instance: &'a Instance, walks: Walks, options: Options) -> Result<Engine<'a>> {
         let settled = settle(instance, walks, options.most)?;
-        let mut engine = Engine::new(instance, &settled, options)?;
-        engine.look_at_root(&settled)?;
+        let resources = shared_resources(instance, &settled)?;
+        let propagators = propagators_of(instance, &settled, &resources, options)?;
+        let (trail, only_orders) = (&propagators.trail, resources.is_empty());
+        let learning = learning_of(instance, &settled, trail, only_orders, options)?;
+        let Settled {
+            walks,
+            forced,
+            is_infeasible,
+            ..
+        } = settled;
+        let mut engine = Engine::of(instance, walks, propagators, learning, options.done);
+        engine.look_at_root(&forced, is_infeasible)?;
         Ok(engine)
     }
 
     /// Tells the log what is settled, and looks at all that follows.
-    fn look_at_root(&mut self, settled: &Settled) -> Result<()> {
-        for order in &settled.forced {
+    fn look_at_root(&mut self, forced: &[Edge], is_infeasible: bool) -> Result<()> {
+        for order in forced {
             self.log.order(*order)?;
         }
-        if settled.is_infeasible || !self.has_room() {
+        if is_infeasible || !self.has_room() {
             return self.refute(LineReason::Arcs);
         }
         if let Some(conflict) = conflict_of(self.begin())? {
@@ -217,18 +231,10 @@ impl<'a> Engine<'a> {
         Ok(())
     }
 
-    /// A search under settled orders that has looked at nothing yet.
-    fn new(instance: &'a Instance, settled: &Settled, options: Options) -> Result<Engine<'a>> {
-        let resources = shared_resources(instance, settled)?;
-        let propagators = propagators_of(instance, settled, &resources, options)?;
-        let only_orders = resources.is_empty();
-        let learning = learning_of(instance, settled, &propagators.trail, only_orders, options)?;
-        Ok(Engine::of(instance, propagators, learning, options.done))
-    }
-
     /// A search of these parts that has looked at nothing yet.
     fn of(
         instance: &'a Instance,
+        walks: Walks,
         propagators: Propagators<'a>,
         learning: Learning<'a>,
         done: SearchCounts,
@@ -246,6 +252,7 @@ impl<'a> Engine<'a> {
         } = learning;
         Engine {
             instance,
+            walks,
             trail,
             edges,
             table,
@@ -259,6 +266,7 @@ impl<'a> Engine<'a> {
             logged: 1,
             queue: 1,
             table_marks: Table::new(instance.alloc, 0),
+            seen: None,
             is_refuted: false,
             floor: 0,
             has_path: false,
@@ -313,7 +321,10 @@ impl<'a> Engine<'a> {
             if self.table.step(&mut self.trail)? {
                 continue;
             }
-            self.cliques.run(&mut self.trail)?;
+            self.cliques.run(&mut self.trail, &self.edges)?;
+            if self.queue >= self.trail.count() {
+                self.cliques.find_edges(&mut self.trail, &self.edges)?;
+            }
             if self.queue >= self.trail.count() {
                 break;
             }

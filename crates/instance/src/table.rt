@@ -84,12 +84,16 @@ impl<T: Copy> Table<T> {
 
     /// Copies so many places from one on to another one on, which may be the end.
     pub fn copy(&mut self, from: u32, to: u32, count: u32) -> Result<()> {
-        for x in 0..count {
-            let (value, at) = (self[from.wrapping_add(x)], to.wrapping_add(x));
-            if at == self.count() {
+        let (from, to, count) = (from as usize, to as usize, count as usize);
+        let (last, end) = (from.saturating_add(count), to.saturating_add(count));
+        if last <= self.items.len() && end <= self.items.len() {
+            self.items.copy_within(from..last, to);
+            return Ok(());
+        }
+        for at in from..last {
+            let value = self.items.get(at).copied().unwrap_or(self.rest);
+            if to.saturating_add(at.saturating_sub(from)) == self.items.len() {
                 self.push(value)?;
-            } else {
-                self[at] = value;
             }
         }
         Ok(())

@@ -55,9 +55,9 @@ fn frame(alloc: Global, event: &Event) -> Result<Vec<u8>, AllocError>
     ensures frame { IfOk result (λ frame. frame.items ≡ event_text event.now) }
     ensures size { OnOk result (length (body_text event.now) < 2 ^ 63) }
 {
-    let mut body = Vec::new(alloc);
+    let mut body = Vec::with_capacity(alloc, 256)?;
     put_body(&mut body, event)?;
-    let mut frame = Vec::new(alloc);
+    let mut frame = Vec::with_capacity(alloc, 256)?;
     put_number(&mut frame, body.len() as u128)?;
     frame.extend_from_slice(&body)?;
     Ok(frame)

@@ -65,7 +65,7 @@ fn put_copy(
 pub(crate) fn picked(alloc: Global, lines: &[Line], places: &[usize]) -> Result<Lines, AllocError>
     ensures { IfOk result (λ copies. copies ≡ picked lines.now places.now) }
 {
-    let mut copies = Vec::new(alloc);
+    let mut copies = Vec::with_capacity(alloc, places.len())?;
     for place in places {
         put_copy(alloc, &mut copies, lines, *place)?;
     }

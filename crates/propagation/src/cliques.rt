@@ -2,30 +2,19 @@
 //! time. So their work must fit between a least start and a greatest end, and the work of those before (after) one
 //! pushes its least (greatest) start.
 
+use crate::clique_changes::{ANY_RISE, CliqueChanges, NO_CHANGE, NO_RISES, Rises, Set, Side, bit};
 use crate::edges::Edges;
-use crate::windows::{Window, find_overload, reached, renew_all};
+use crate::pay::{NO_PAY, Pay};
+use crate::windows::{Window, overload, reached, renew_all};
 use crate::{BoundChange, Conflict, Literal, NEVER, Reason, Stop, Trail};
 use instance::{Instance, Result, Rows, Table, narrow};
 use std::mem;
-
-/// Places of a clique, as bits.
-type Set = u64;
 
 /// The most members of a clique that is looked at everywhere.
 const MOST: usize = 64;
 
 /// The squares of the cliques' sizes up to which they are looked at everywhere.
 const WORK: u64 = 20_000;
-
-/// What changed in a clique.
-#[derive(Clone, Copy, Default)]
-struct CliqueChanges {
-    /// Those whose bounds moved.
-    moved: Set,
-    /// Those whose least start is to be looked at, and the same of greatest starts.
-    least: Set,
-    greatest: Set,
-}
 
 /// A clique, and a place in it.
 #[derive(Clone, Copy, Default)]
@@ -47,27 +36,27 @@ struct Seats {
 pub struct Cliques<'a> {
     instance: &'a Instance,
     /// The windows of each clique's members, as they went when it was looked at last; and the same with time turned round.
-    windows: Rows<Window>,
-    turned: Rows<Window>,
+    pub(crate) windows: Rows<Window>,
+    pub(crate) turned: Rows<Window>,
     /// So many cliques are looked at everywhere. Those after them are so at the root and below a supposed end alone.
     short: u32,
     pub members: Rows<u32>,
     /// By all members, clique after clique: the places of those that are known to run before it, and after it.
-    before: Table<Set>,
-    after: Table<Set>,
+    pub(crate) before: Table<Set>,
+    pub(crate) after: Table<Set>,
     /// By clique. Where there are news, it is in `todo`.
     news: Table<CliqueChanges>,
     todo: Vec<u32>,
+    /// By clique: which times rose since edges were looked for. Where some did, it is in `later`.
+    pub(crate) rises: Table<Rises>,
+    pub(crate) later: Vec<u32>,
+    /// By clique: whether to look for edges.
+    pub(crate) pays: Table<Pay>,
     /// By activity, and by the slot of a pair, which says its order.
     seats: Rows<Seat>,
     pairs: Rows<Seats>,
     /// Events before this one are noticed.
     queue: u32,
-}
-
-/// The bit of a place.
-fn bit(place: u32) -> Set {
-    1u64.wrapping_shl(place)
 }
 
 /// How many members a clique may have that is looked at everywhere.
@@ -113,8 +102,11 @@ impl<'a> Cliques<'a> {
             members,
             before: Table::new(alloc, 0),
             after: Table::new(alloc, 0),
-            news: Table::new(alloc, CliqueChanges::default()),
+            news: Table::new(alloc, NO_CHANGE),
             todo: Vec::new(alloc),
+            rises: Table::new(alloc, NO_RISES),
+            later: Vec::new(alloc),
+            pays: Table::new(alloc, NO_PAY),
             seats: Rows::new(alloc, Seat::default()),
             pairs: Rows::new(alloc, Seats::default()),
             queue: 0,
@@ -131,7 +123,9 @@ impl<'a> Cliques<'a> {
         );
         self.before.fill(all, 0)?;
         self.after.fill(all, 0)?;
-        self.news.fill(count, CliqueChanges::default())?;
+        self.news.fill(count, NO_CHANGE)?;
+        self.rises.fill(count, NO_RISES)?;
+        self.pays.fill(count, NO_PAY)?;
         self.seat_all()?;
         self.relate_all(edges)
     }
@@ -161,7 +155,10 @@ impl<'a> Cliques<'a> {
         for clique in 0..self.members.count() {
             self.seat(clique, &mut seats)?;
             if clique < self.short {
-                self.note(clique, Set::MAX, 0, 0)?;
+                let count = narrow(self.members.row(clique).len());
+                let all = Set::MAX.wrapping_shr(64u32.wrapping_sub(count));
+                let news = self.note(clique)?;
+                (news.least, news.greatest) = (Side::all(all), Side::all(all));
             }
         }
         self.seats = Rows::by_row(self.instance.alloc, seats, Seat::default())?;
@@ -189,7 +186,7 @@ impl<'a> Cliques<'a> {
     }
 
     /// Where the bits of a place of a clique stand.
-    fn at(&self, clique: u32, place: u32) -> u32 {
+    pub(crate) fn at(&self, clique: u32, place: u32) -> u32 {
         self.members.numbers(clique).start.wrapping_add(place)
     }
 
@@ -200,28 +197,41 @@ impl<'a> Cliques<'a> {
         self.before[to] ^= bit(first);
     }
 
-    /// Something changed in a clique, which is to be looked at.
+    /// Something changed in a clique, which is to be looked at. Gives what is noted of it.
     #[inline(always)]
-    fn note(&mut self, clique: u32, moved: Set, least: Set, greatest: Set) -> Result<()> {
+    fn note(&mut self, clique: u32) -> Result<&mut CliqueChanges> {
         let news = &mut self.news[clique];
-        let is_first = news.moved | news.least | news.greatest == 0;
-        news.moved |= moved;
-        news.least |= least;
-        news.greatest |= greatest;
-        if is_first {
+        if !news.is_noted {
+            news.is_noted = true;
             self.todo.push(clique)?;
         }
-        Ok(())
+        Ok(news)
     }
 
     /// A bound of an activity moved.
-    fn notice_bound(&mut self, activity: u32, is_least: bool) -> Result<()> {
+    #[inline(always)]
+    fn notice_bound(&mut self, event: &BoundChange) -> Result<()> {
+        let (activity, is_least) = (event.slot / 2, event.slot % 2 == 0);
+        let duration = self.instance.durations[activity];
         for number in self.seats.numbers(activity) {
             let Seat { clique, place } = self.seats.values[number];
             let at = self.at(clique, place);
-            let least = if is_least { self.after[at] } else { 0 };
-            let greatest = if is_least { 0 } else { self.before[at] };
-            self.note(clique, bit(place), least, greatest)?;
+            let beside = if is_least {
+                self.after[at]
+            } else {
+                self.before[at]
+            };
+            let news = self.note(clique)?;
+            if is_least {
+                news.least.note(beside, event.old, event.new);
+            } else {
+                let (old, new) = (event.old, event.new);
+                news.greatest.note(
+                    beside,
+                    old.wrapping_sub(duration),
+                    new.wrapping_sub(duration),
+                );
+            }
         }
         Ok(())
     }
@@ -231,7 +241,9 @@ impl<'a> Cliques<'a> {
         for number in self.pairs.numbers(slot) {
             let Seats { clique, one, other } = self.pairs.values[number];
             self.turn(clique, one, other);
-            self.note(clique, 0, bit(other), bit(one))?;
+            let news = self.note(clique)?;
+            news.least.ordered |= bit(other);
+            news.greatest.ordered |= bit(one);
         }
         Ok(())
     }
@@ -247,106 +259,237 @@ impl<'a> Cliques<'a> {
         }
     }
 
-    /// The trail went back to so many events. Nothing was left to look at then.
-    pub fn go_back(&mut self, queue: u32) {
-        for clique in &self.todo {
-            self.news[*clique] = CliqueChanges::default();
-        }
-        self.todo.clear();
-        self.queue = self.queue.min(queue);
-    }
-
-    /// Takes notice of all events.
-    fn catch_up(&mut self, trail: &Trail) -> Result<()> {
-        for number in self.queue..trail.count() {
-            let slot = trail.event(number).slot;
-            if slot / 2 < self.instance.count() {
-                self.notice_bound(slot / 2, slot % 2 == 0)?;
-            } else {
-                self.notice_order(slot)?;
-            }
-            self.queue = number.wrapping_add(1);
+    /// Members of a clique that run before the first of two run before the second, and those after the second after the
+    /// first.
+    fn close(&self, trail: &mut Trail, edges: &Edges, seats: Seats) -> Result<(), Stop> {
+        let Seats { clique, one, other } = seats;
+        let (at_one, at_other) = (self.at(clique, one), self.at(clique, other));
+        let before = self.before[at_one] & !self.before[at_other];
+        let after = self.after[at_other] & !self.after[at_one];
+        let mut left = before | after;
+        for _ in 0..left.count_ones() {
+            let place = left.trailing_zeros();
+            left = left & left.wrapping_sub(1);
+            let is_before = before & bit(place) != 0;
+            let (first, via, second) = match is_before {
+                true => (place, one, other),
+                false => (one, other, place),
+            };
+            let via = self.members.values[self.at(clique, via)];
+            self.force_order(trail, edges, clique, first, second, Reason::Through { via })?;
         }
         Ok(())
     }
 
-    /// What follows of all that changed.
-    pub fn run(&mut self, trail: &mut Trail) -> Result<(), Stop> {
-        self.catch_up(trail)?;
+    /// The orders that follow from that of a slot, as no three go round.
+    fn close_all(&self, trail: &mut Trail, edges: &Edges, slot: u32) -> Result<(), Stop> {
+        for number in self.pairs.numbers(slot) {
+            self.close(trail, edges, self.pairs.values[number])?;
+        }
+        Ok(())
+    }
+
+    /// How long an activity takes, in periods.
+    pub(crate) fn duration(&self, activity: u32) -> i32 {
+        self.instance.durations[activity]
+    }
+
+    /// One place runs before another one. Where lags say that it can't, bounds will tell once they have followed.
+    pub(crate) fn force_order(
+        &self,
+        trail: &mut Trail,
+        edges: &Edges,
+        clique: u32,
+        first: u32,
+        second: u32,
+        reason: Reason,
+    ) -> Result<(), Stop> {
+        let a = self.members.values[self.at(clique, first)];
+        let b = self.members.values[self.at(clique, second)];
+        match edges.precedence(a, b) {
+            None | Some(NEVER) => Ok(()),
+            Some(order) => trail.force(order, reason),
+        }
+    }
+
+    /// The trail went back to so many events. Nothing was left to look at then.
+    pub fn go_back(&mut self, queue: u32) {
+        for clique in &self.todo {
+            self.news[*clique] = NO_CHANGE;
+        }
+        self.todo.clear();
+        for clique in &self.later {
+            self.rises[*clique] = NO_RISES;
+        }
+        self.later.clear();
+        self.queue = self.queue.min(queue);
+    }
+
+    /// Takes notice of all events, those that follow from orders too.
+    fn catch_up(&mut self, trail: &mut Trail, edges: &Edges) -> Result<(), Stop> {
+        for _ in 0..u64::MAX {
+            if self.queue >= trail.count() {
+                break;
+            }
+            let event = trail.event(self.queue);
+            self.queue = self.queue.wrapping_add(1);
+            if event.slot / 2 < self.instance.count() {
+                self.notice_bound(&event)?;
+            } else {
+                self.notice_order(event.slot)?;
+                self.close_all(trail, edges, event.slot)?;
+            }
+        }
+        Ok(())
+    }
+
+    /// What follows of all that changed. Windows also show what moved since it was noticed.
+    pub fn run(&mut self, trail: &mut Trail, edges: &Edges) -> Result<(), Stop> {
+        self.catch_up(trail, edges)?;
         for _ in 0..u64::MAX {
             let Some(clique) = self.todo.pop() else {
                 break;
             };
-            let news = mem::replace(&mut self.news[clique], CliqueChanges::default());
+            let news = mem::replace(&mut self.news[clique], NO_CHANGE);
             self.look_at(trail, clique, news)?;
         }
         Ok(())
     }
 
-    /// A conflict where the windows of a clique are overloaded. Those of places that have not moved were looked at before.
-    fn find_overload(&mut self, trail: &Trail, clique: u32, moved: Set) -> Result<(), Stop> {
-        let windows = self.windows.row_mut(clique);
-        renew_all(windows, trail, false);
-        match find_overload(windows, moved) {
-            Some((from, to)) => Err(Stop::Conflict(Conflict::Clique { clique, from, to })),
+    /// The windows of a clique are as they are now.
+    pub(crate) fn renew(&mut self, trail: &Trail, clique: u32) {
+        renew_all(self.windows.row_mut(clique), trail, false);
+        renew_all(self.turned.row_mut(clique), trail, true);
+    }
+
+    /// A conflict where the windows of a clique are overloaded from where least starts rose, or up to where greatest ends
+    /// fell.
+    fn find_overload(&self, clique: u32, rises: Rises) -> Result<(), Stop> {
+        let (windows, turned) = (self.windows.row(clique), self.turned.row(clique));
+        if let Some((from, to)) = overload(windows, turned, rises.least) {
+            return Err(Stop::Conflict(Conflict::Clique { clique, from, to }));
+        }
+        match overload(turned, windows, rises.greatest) {
+            Some((end, begin)) => {
+                let (from, to) = (begin.wrapping_neg(), end.wrapping_neg());
+                Err(Stop::Conflict(Conflict::Clique { clique, from, to }))
+            }
             None => Ok(()),
         }
     }
 
     /// Looks for overloads of the long cliques.
     pub fn find_overloads(&mut self, trail: &Trail) -> Result<(), Stop> {
+        let (least, greatest) = (ANY_RISE, NO_RISES.greatest);
         for clique in self.short..self.members.count() {
-            self.find_overload(trail, clique, Set::MAX)?;
+            self.renew(trail, clique);
+            self.find_overload(clique, Rises { least, greatest })?;
         }
+        Ok(())
+    }
+
+    /// Edges of a clique are to be looked for where times rose.
+    fn note_rises(&mut self, clique: u32, new: Rises) -> Result<()> {
+        let Rises { least, greatest } = self.rises[clique];
+        let is_noted = least.is_some() || greatest.is_some();
+        if !is_noted && (new.least.is_some() || new.greatest.is_some()) {
+            self.later.push(clique)?;
+        }
+        self.rises[clique] = Rises {
+            least: least.with(new.least),
+            greatest: greatest.with(new.greatest),
+        };
         Ok(())
     }
 
     /// Looks at what changed in a clique.
     fn look_at(&mut self, trail: &mut Trail, clique: u32, news: CliqueChanges) -> Result<(), Stop> {
-        self.find_overload(trail, clique, news.moved)?;
-        self.push_all(trail, clique, news.least, true)?;
-        if news.greatest != 0 {
-            renew_all(self.turned.row_mut(clique), trail, true);
-            self.push_all(trail, clique, news.greatest, false)?;
-        }
-        Ok(())
+        let CliqueChanges {
+            least,
+            greatest,
+            ..
+        } = news;
+        let rises = Rises {
+            least: least.rise,
+            greatest: greatest.rise,
+        };
+        self.renew(trail, clique);
+        self.find_overload(clique, rises)?;
+        self.note_rises(clique, rises)?;
+        self.push_all(trail, clique, least, true)?;
+        self.push_all(trail, clique, greatest, false)
     }
 
-    /// Looks at the bounds of some members.
+    /// The least start of a member, or with time turned round its greatest end.
+    #[inline(always)]
+    fn bound(&self, trail: &Trail, clique: u32, place: u32, is_least: bool) -> i32 {
+        let activity = self.members.values[self.at(clique, place)];
+        if is_least {
+            return trail.least(activity);
+        }
+        let duration = self.instance.durations[activity];
+        trail
+            .greatest(activity)
+            .wrapping_add(duration)
+            .wrapping_neg()
+    }
+
+    /// When those before a member, seen from the latest on, are done at least; or those after it, seen from the earliest on:
+    /// the same with time turned round. Only those above a time are looked at.
+    #[inline(always)]
+    fn reach(&self, clique: u32, place: u32, is_least: bool, bound: i32, above: i32) -> (i32, i32) {
+        let at = self.at(clique, place);
+        if is_least {
+            reached(self.windows.row(clique), self.before[at], bound, above)
+        } else {
+            reached(self.turned.row(clique), self.after[at], bound, above)
+        }
+    }
+
+    /// Looks at the bounds of some members. Where only times rose, nothing changed up to where they did.
     fn push_all(
         &self,
         trail: &mut Trail,
         clique: u32,
-        all: Set,
+        side: Side,
         is_least: bool,
     ) -> Result<(), Stop> {
-        let mut left = all;
-        for _ in 0..all.count_ones() {
+        let mut left = side.ordered | side.beside;
+        for _ in 0..left.count_ones() {
             let place = left.trailing_zeros();
             left = left & left.wrapping_sub(1);
-            self.push(trail, Seat { clique, place }, is_least)?;
+            let is_ordered = side.ordered & bit(place) != 0;
+            let above = if is_ordered { i32::MIN } else { side.rise.old };
+            self.push(trail, clique, place, above, is_least)?;
         }
         Ok(())
     }
 
-    /// Those before a member, seen from the latest on, end when all their work is done at least. Those after it, seen
-    /// from the earliest on, start before all their work: the same with time turned round.
-    fn push(&self, trail: &mut Trail, seat: Seat, is_least: bool) -> Result<(), Stop> {
-        let Seat { clique, place } = seat;
-        let at = self.at(clique, place);
-        let activity = self.members.values[at];
-        let reason = |time: i32| Reason::Pushed { clique, time };
-        if is_least {
-            let windows = self.windows.row(clique);
-            let (reached, time) = reached(windows, self.before[at], trail.least(activity));
-            return trail.force(Literal::at_least(activity, reached), reason(time));
+    /// Those before a member are done when it starts, and those after it start when it has ended. Only times above one
+    /// are looked at.
+    #[inline(always)]
+    fn push(
+        &self,
+        trail: &mut Trail,
+        clique: u32,
+        place: u32,
+        above: i32,
+        is_least: bool,
+    ) -> Result<(), Stop> {
+        let bound = self.bound(trail, clique, place, is_least);
+        let (reached, time) = self.reach(clique, place, is_least, bound, above);
+        if reached == bound {
+            return Ok(());
         }
+        let activity = self.members.values[self.at(clique, place)];
+        if is_least {
+            let reason = Reason::Pushed { clique, time };
+            return trail.force(Literal::at_least(activity, reached), reason);
+        }
+        let time = time.wrapping_neg();
         let duration = self.instance.durations[activity];
-        let end = trail.greatest(activity).wrapping_add(duration);
-        let windows = self.turned.row(clique);
-        let (reached, time) = reached(windows, self.after[at], end.wrapping_neg());
         let latest = reached.wrapping_neg().wrapping_sub(duration);
-        let literal = Literal::at_most(activity, latest);
-        trail.force(literal, reason(time.wrapping_neg()))
+        let reason = Reason::Pushed { clique, time };
+        trail.force(Literal::at_most(activity, latest), reason)
     }
 }

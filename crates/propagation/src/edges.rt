@@ -1,7 +1,8 @@
 //! Arcs and orders of rivals: how they move bounds.
 
+use crate::implied::implied_orders;
 use crate::{Literal, NEVER, Reason, Stop, Trail};
-use instance::{Edge, Instance, Result, Rivals, Rows, Settled, Table, Walks};
+use instance::{Edge, Instance, Result, Rivals, Rows, Settled, Table, Walks, narrow};
 
 /// The slot `to` has at least the value of the slot `from` and `weight`: least starts forward over a lag, greatest ones,
 /// negated, backward.
@@ -28,6 +29,8 @@ pub struct Edges {
     pub orders: Rows<Order>,
     /// By slot: the orders that the slot's literal makes hold.
     by_slot: Rows<u32>,
+    /// By the slot of an order, after those of bounds: the orders that it implies by lags.
+    implied: Rows<Literal>,
     /// By first and second activity: the literal by which they run in this order, none where they do so by lags.
     precedences: Table<Option<Literal>>,
 }
@@ -101,10 +104,12 @@ impl Edges {
             arcs: needed(instance, settled)?,
             orders: Rows::new(alloc, Order::default()),
             by_slot: Rows::new(alloc, 0),
+            implied: Rows::new(alloc, NEVER),
             precedences: precedences(instance, &settled.walks)?,
         };
         edges.take_orders(instance, &settled.open)?;
         edges.list_orders(instance)?;
+        edges.implied = implied_orders(instance, settled, &edges)?;
         Ok(edges)
     }
 
@@ -139,19 +144,61 @@ impl Edges {
         self.precedences[a.wrapping_mul(self.activities).wrapping_add(b)]
     }
 
+    /// The number of an order's slot, after those of bounds.
+    pub(crate) fn number_of(&self, slot: u32) -> u32 {
+        slot.wrapping_sub(self.activities.wrapping_mul(2))
+    }
+
     /// What follows by arcs and orders from a slot that has a new value.
     #[inline(always)]
     pub fn follow(&self, trail: &mut Trail, slot: u32) -> Result<(), Stop> {
         if slot >= self.activities.wrapping_mul(2) {
-            return self.follow_pair(trail, slot);
+            self.follow_pair(trail, slot)?;
+            return self.follow_implied(trail, slot);
         }
         let value = trail.values()[slot];
-        for (number, arc) in self.arcs.numbers(slot).zip(self.arcs.row(slot)) {
+        self.follow_arcs(trail, slot, value)?;
+        self.follow_orders(trail, slot, value)
+    }
+
+    /// What follows by the arcs of a slot.
+    #[inline(always)]
+    fn follow_arcs(&self, trail: &mut Trail, slot: u32, value: i32) -> Result<(), Stop> {
+        let first = self.arcs.numbers(slot).start;
+        let mut left = self.arcs.row(slot);
+        let mut number = first;
+        for _ in 0..u64::MAX {
+            let values = trail.values().items.as_slice();
+            let moves = |arc: &Arc| is_less(values, arc.to, value.wrapping_add(arc.weight));
+            let Some(at) = left.iter().position(moves) else {
+                break;
+            };
+            let (arc, arcs) = (left[at], &left[at + 1..]);
             let literal = Literal::new(arc.to, value.wrapping_add(arc.weight));
+            number = number.wrapping_add(narrow(at));
             trail.force(literal, Reason::Arc { arc: number })?;
+            number = number.wrapping_add(1);
+            left = arcs;
         }
-        for (number, order) in self.orders.numbers(slot).zip(self.orders.row(slot)) {
-            follow_order(trail, *order, value, number)?;
+        Ok(())
+    }
+
+    /// What follows by the orders of a slot. The bounds that they would move are mostly there already.
+    #[inline(always)]
+    fn follow_orders(&self, trail: &mut Trail, slot: u32, value: i32) -> Result<(), Stop> {
+        let first = self.orders.numbers(slot).start;
+        let mut left = self.orders.row(slot);
+        let mut number = first;
+        for _ in 0..u64::MAX {
+            let values = trail.values().items.as_slice();
+            let Some(at) = left.iter().position(|order| says(values, *order, value)) else {
+                break;
+            };
+            let (order, orders) = (left[at], &left[at + 1..]);
+            number = number.wrapping_add(narrow(at));
+            follow_order(trail, order, value, number)?;
+            number = number.wrapping_add(1);
+            left = orders;
         }
         Ok(())
     }
@@ -164,6 +211,36 @@ impl Edges {
         }
         Ok(())
     }
+
+    /// The orders that the order of a slot implies.
+    fn follow_implied(&self, trail: &mut Trail, slot: u32) -> Result<(), Stop> {
+        for order in self.implied.row(self.number_of(slot)) {
+            trail.force(*order, Reason::Implied { slot })?;
+        }
+        Ok(())
+    }
+}
+
+/// Whether a slot has less than a value.
+#[inline(always)]
+fn is_less(values: &[i32], slot: u32, value: i32) -> bool {
+    (slot as usize) < values.len() && values[slot as usize] < value
+}
+
+/// Whether something follows by an order from a slot of a value: the bound that it would move is not there, and either the
+/// order holds, or there is no room and it is not lost yet.
+#[inline(always)]
+fn says(values: &[i32], order: Order, value: i32) -> bool {
+    let Order { arc, literal } = order;
+    let bound = value.wrapping_add(arc.weight);
+    if !is_less(values, arc.to, bound) {
+        return false;
+    }
+    if is_less(values, arc.to ^ 1, 1i32.wrapping_sub(bound)) {
+        !is_less(values, literal.slot, literal.value)
+    } else {
+        is_less(values, literal.slot ^ 1, 1i32.wrapping_sub(literal.value))
+    }
 }
 
 /// An order from a slot of a value moves a bound where it holds; one that has no room is lost.
@@ -171,7 +248,8 @@ impl Edges {
 fn follow_order(trail: &mut Trail, order: Order, from: i32, number: u32) -> Result<(), Stop> {
     let Order { arc, literal } = order;
     let moved = Literal::new(arc.to, from.wrapping_add(arc.weight));
-    if trail.fails(literal) || trail.holds(moved) {
+    // The bound that it would move is mostly there already.
+    if trail.holds(moved) || trail.fails(literal) {
         Ok(())
     } else if trail.holds(literal) {
         trail.force(moved, Reason::Order { order: number })

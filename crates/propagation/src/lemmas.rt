@@ -4,7 +4,7 @@ use crate::literal::{Literal, NEVER};
 use crate::reason::{Conflict, Reason, Stop};
 use crate::trail::Trail;
 use instance::{Result, Table, narrow};
-use std::alloc::Global;
+use std::alloc::{AllocError, Global};
 use std::cmp::Reverse;
 use std::mem;
 
@@ -60,8 +60,10 @@ pub struct Lemmas {
     literals: Table<Literal>,
     heads: Table<LemmaHeader>,
     /// By slot: the values that are watched, rising.
-    watched: Vec<Table<Watched>>,
+    watched: Vec<Vec<Watched>>,
     lists: Vec<Vec<Watch>>,
+    /// Lists that are not in use.
+    spare: Vec<u32>,
     bump: u64,
 }
 
@@ -70,7 +72,7 @@ impl Lemmas {
     pub fn new(alloc: Global, slots: u32) -> Result<Lemmas> {
         let mut watched = Vec::with_capacity(alloc, slots as usize)?;
         for _ in 0..slots {
-            watched.push(Table::new(alloc, Watched::default()))?;
+            watched.push(Vec::new(alloc))?;
         }
         Ok(Lemmas {
             alloc,
@@ -78,6 +80,7 @@ impl Lemmas {
             heads: Table::new(alloc, LemmaHeader::default()),
             watched,
             lists: Vec::new(alloc),
+            spare: Vec::new(alloc),
             bump: FIRST_BUMP,
         })
     }
@@ -101,8 +104,7 @@ impl Lemmas {
 
     /// The literals of the lemma at a place. The first is the one that it made hold.
     pub fn literals(&self, place: u32) -> &[Literal] {
-        let (from, to) = self.places(place);
-        self.literals.part(from, to)
+        literals_at(&self.literals, place)
     }
 
     /// The number in the log of the lemma at a place.
@@ -110,20 +112,34 @@ impl Lemmas {
         self.heads[self.head(place)].number
     }
 
+    /// A list that is not in use.
+    fn new_list(&mut self) -> Result<u32> {
+        if let Some(list) = self.spare.pop() {
+            return Ok(list);
+        }
+        self.lists.push(Vec::new(self.alloc))?;
+        Ok(narrow(self.lists.len().wrapping_sub(1)))
+    }
+
     /// The list of the watches of a literal.
     fn list_of(&mut self, literal: Literal) -> Result<u32> {
         let Literal { slot, value } = literal;
-        let Some(values) = self.watched.get_mut(slot as usize) else {
+        let Some(values) = self.watched.get(slot as usize) else {
             return Ok(u32::MAX);
         };
-        let known = values.items.as_slice();
-        let at = narrow(known.partition_point(|known: &Watched| known.value < value));
-        if at >= values.count() || values[at].value != value {
-            let list = narrow(self.lists.len());
-            self.lists.push(Vec::new(self.alloc))?;
-            values.insert(at, Watched { value, list })?;
+        let at = values.partition_point(|known: &Watched| known.value < value);
+        if let Some(known) = values.get(at) {
+            if known.value == value {
+                return Ok(known.list);
+            }
         }
-        Ok(values[at].list)
+        let list = self.new_list()?;
+        if let Some(values) = self.watched.get_mut(slot as usize) {
+            if at <= values.len() && values.insert(at, Watched { value, list }).is_err() {
+                return Err(AllocError);
+            }
+        }
+        Ok(list)
     }
 
     /// The lemma at a place is to be looked at once a literal gets false, unless the other one holds.
@@ -166,20 +182,24 @@ impl Lemmas {
     #[inline(always)]
     fn look_at(&mut self, trail: &Trail, bad: Literal, watch: &mut Watch) -> Result<WatchMove> {
         let (from, to) = self.places(watch.place);
-        let second = from.wrapping_add(1);
-        if self.literals[from] == bad {
-            self.literals.swap(from, second);
+        let literals = self.literals.part_mut(from, to);
+        if literals.len() < 2 {
+            return Ok(WatchMove::Stays);
         }
-        let first = self.literals[from];
+        if literals[0] == bad {
+            literals.swap(0, 1);
+        }
+        let first = literals[0];
         let was = mem::replace(&mut watch.other, first);
         if first != was && trail.holds(first) {
             return Ok(WatchMove::Stays);
         }
-        for at in second.wrapping_add(1)..to {
-            let literal = self.literals[at];
-            if !trail.fails(literal) {
-                self.literals.swap(second, at);
-                self.watch(literal, watch.place, first)?;
+        let (watched, others) = literals.split_at_mut(2);
+        for literal in others {
+            if !trail.fails(*literal) {
+                let found = mem::replace(literal, watched[1]);
+                watched[1] = found;
+                self.watch(found, watch.place, first)?;
                 return Ok(WatchMove::Moves);
             }
         }
@@ -224,22 +244,44 @@ impl Lemmas {
         flow
     }
 
+    /// What is watched of a slot from a place on, up to a value.
+    #[inline(always)]
+    fn watched_at(&self, slot: u32, at: usize, most: i32) -> Option<Watched> {
+        let found = self.watched.get(slot as usize)?.get(at)?;
+        (found.value <= most).then_some(*found)
+    }
+
+    /// Takes a list away that is empty. Whether it was.
+    #[inline(always)]
+    fn drop_empty(&mut self, slot: u32, at: usize, list: u32) -> Result<bool> {
+        let watches = self.lists.get(list as usize);
+        if !watches.is_some_and(|watches| watches.is_empty()) {
+            return Ok(false);
+        }
+        if let Some(values) = self.watched.get_mut(slot as usize) {
+            if at < values.len() {
+                values.remove(at);
+            }
+        }
+        self.spare.push(list)?;
+        Ok(true)
+    }
+
     /// A slot rose from a value to another: what follows by the lemmas that watch the values between.
     #[inline(always)]
     pub fn follow(&mut self, trail: &mut Trail, slot: u32, old: i32, new: i32) -> Result<(), Stop> {
         let Some(values) = self.watched.get(slot as usize) else {
             return Ok(());
         };
-        let first = values
-            .items
-            .partition_point(|known: &Watched| known.value <= old);
-        for at in first..usize::MAX {
-            let values = self.watched.get(slot as usize);
-            let found = values.and_then(|values| values.items.get(at).copied());
-            let Some(Watched { value, list }) = found.filter(|found| found.value <= new) else {
+        let mut at = values.partition_point(|known: &Watched| known.value <= old);
+        for _ in 0..u64::MAX {
+            let Some(Watched { value, list }) = self.watched_at(slot, at, new) else {
                 break;
             };
             self.visit(trail, !Literal { slot, value }, list)?;
+            if !self.drop_empty(slot, at, list)? {
+                at = at.wrapping_add(1);
+            }
         }
         Ok(())
     }
@@ -285,25 +327,57 @@ impl Lemmas {
     /// and all that follows is there. Gives the numbers of those that go.
     pub fn reduce(&mut self, trail: &Trail) -> Result<Vec<u32>> {
         let goes = self.going(trail)?;
-        let empty = Lemmas::new(self.alloc, narrow(self.watched.len()))?;
-        let bump = self.bump;
-        let old = mem::replace(self, Lemmas { bump, ..empty });
-        self.take_rest(&old, &goes.items, trail)
+        let literals = mem::replace(&mut self.literals, Table::new(self.alloc, NEVER));
+        let none = LemmaHeader::default();
+        let heads = mem::replace(&mut self.heads, Table::new(self.alloc, none));
+        self.unwatch_all()?;
+        self.take_rest(&literals, &heads.items, &goes.items, trail)
+    }
+
+    /// No literal is watched. The lists keep their places.
+    fn unwatch_all(&mut self) -> Result<()> {
+        for values in &mut self.watched {
+            values.clear();
+        }
+        self.spare.clear();
+        for (number, list) in (0..u32::MAX).zip(&mut self.lists) {
+            list.clear();
+            self.spare.push(number)?;
+        }
+        Ok(())
     }
 
     /// Takes those of old lemmas that don't go, without the literals that fail. Gives the numbers of those that go.
-    fn take_rest(&mut self, old: &Lemmas, goes: &[bool], trail: &Trail) -> Result<Vec<u32>> {
-        let mut gone = Vec::new(self.alloc);
-        for (head, goes) in old.heads.items.iter().zip(goes) {
-            let literals = old.literals(head.place).iter().copied();
-            let open = literals.filter(|literal: &Literal| !trail.fails(*literal));
-            let open: Vec<Literal> = open.collect(self.alloc)?;
+    fn take_rest(
+        &mut self,
+        old: &Table<Literal>,
+        heads: &[LemmaHeader],
+        goes: &[bool],
+        trail: &Trail,
+    ) -> Result<Vec<u32>> {
+        let (mut gone, mut open) = (Vec::new(self.alloc), Vec::new(self.alloc));
+        for (head, goes) in heads.iter().zip(goes) {
             if *goes {
                 gone.push(head.number)?;
-            } else if open.len() > 1 {
+                continue;
+            }
+            open.clear();
+            for literal in literals_at(old, head.place) {
+                if !trail.fails(*literal) {
+                    open.push(*literal)?;
+                }
+            }
+            if open.len() > 1 {
                 self.add(&open, *head)?;
             }
         }
         Ok(gone)
     }
+}
+
+/// The literals of the lemma at a place.
+#[inline(always)]
+fn literals_at(literals: &Table<Literal>, place: u32) -> &[Literal] {
+    let from = place.wrapping_add(1);
+    literals.part(from, from.wrapping_add(literals[place].slot))
 }

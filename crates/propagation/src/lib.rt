@@ -3,11 +3,16 @@
 //! Each reads the trail and makes literals hold, with a reason by which they are explained when an analysis asks.
 #![tactic(auto)]
 
+mod clique_changes;
 mod cliques;
+mod edge_finding;
 mod edges;
 mod energy;
+mod implied;
 mod lemmas;
 mod literal;
+mod needs;
+mod pay;
 mod profile;
 mod reason;
 mod time_table;

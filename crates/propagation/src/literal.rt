@@ -39,6 +39,11 @@ impl Literal {
         Literal::new(variable.wrapping_mul(2), value)
     }
 
+    /// The order that a slot stands for, which is not one of a bound.
+    pub fn order(slot: u32) -> Literal {
+        Literal::new(slot, i32::from(slot % 2 == 0))
+    }
+
     /// The variable is at most so much.
     pub fn at_most(variable: u32, value: i32) -> Literal {
         !Literal::at_least(variable, value.wrapping_add(1))

@@ -14,6 +14,12 @@ pub struct Interval {
 /// No time.
 pub const NO_PART: Interval = Interval { from: 0, to: 0 };
 
+/// All times.
+pub(crate) const ALWAYS: Interval = Interval {
+    from: i32::MIN,
+    to: i32::MAX,
+};
+
 impl Interval {
     /// Whether there is no time in it.
     pub(crate) fn is_empty(self) -> bool {
@@ -88,51 +94,66 @@ impl Profile {
         self.segments[segment].from
     }
 
-    /// Where the room of a segment stands.
-    fn room_at(&self, segment: u32) -> u32 {
-        self.segments[segment].row.wrapping_mul(self.resources)
+    /// Where the bits of a row stand.
+    #[inline(always)]
+    fn bits_at(&self, row: u32) -> u32 {
+        row.wrapping_mul(self.words)
     }
 
-    /// Where the bits of a segment stand.
-    fn bits_at(&self, segment: u32) -> u32 {
-        self.segments[segment].row.wrapping_mul(self.words)
+    /// The room of each resource in a segment.
+    #[inline(always)]
+    fn room_in(&self, segment: Segment) -> &[i32] {
+        let from = segment.row.wrapping_mul(self.resources);
+        self.room.part(from, from.wrapping_add(self.resources))
     }
 
-    /// The segment that begins at a time. One that has the time is cut there if need be.
-    pub(crate) fn cut(&mut self, time: i32) -> Result<u32> {
-        let found = self.find(time);
-        if self.begin(found) == time {
+    /// The segment that begins at a time, given the one that has the time, which is cut there if need be.
+    fn cut_in(&mut self, found: u32, time: i32) -> Result<u32> {
+        let Segment { from, row: old } = self.segments[found];
+        if from == time {
             return Ok(found);
         }
-        let new = self.running.count() / self.words.max(1);
-        let row = self.spare.pop().unwrap_or(new);
-        let (room, bits) = (self.room_at(found), self.bits_at(found));
         let (resources, words) = (self.resources, self.words);
-        self.room
-            .copy(room, row.wrapping_mul(resources), resources)?;
-        self.running.copy(bits, row.wrapping_mul(words), words)?;
+        let new = self.running.count() / words.max(1);
+        let row = self.spare.pop().unwrap_or(new);
+        let (room, to) = (old.wrapping_mul(resources), row.wrapping_mul(resources));
+        self.room.copy(room, to, resources)?;
+        let (bits, to) = (self.bits_at(old), self.bits_at(row));
+        self.running.copy(bits, to, words)?;
         let next = found.wrapping_add(1);
         self.segments.insert(next, Segment { row, from: time })?;
         Ok(next)
     }
 
-    /// Joins the segments before and after a time if the same activities run there.
-    pub(crate) fn join(&mut self, time: i32) -> Result<()> {
-        let segment = self.find(time);
-        let (before, here) = (self.bits_at(segment.wrapping_sub(1)), self.bits_at(segment));
-        let is_same = self.running.part(before, before.wrapping_add(self.words))
-            == self.running.part(here, here.wrapping_add(self.words));
-        if segment > 0 && is_same {
-            self.spare.push(self.segments[segment].row)?;
+    /// The segment that begins at a time. One that has the time is cut there if need be.
+    fn cut(&mut self, time: i32) -> Result<u32> {
+        self.cut_in(self.find(time), time)
+    }
+
+    /// The same of a time that is not before a segment.
+    fn cut_after(&mut self, segment: u32, time: i32) -> Result<u32> {
+        let next = segment.wrapping_add(1);
+        let later = self.segments.part(next, self.segments.count());
+        let is_after = |segment: &Segment| segment.from > time;
+        let more = later.iter().position(is_after).unwrap_or(later.len());
+        self.cut_in(segment.wrapping_add(narrow(more)), time)
+    }
+
+    /// Joins a segment and the one before it if the same activities run there.
+    fn join(&mut self, segment: u32) -> Result<()> {
+        if segment == 0 {
+            return Ok(());
+        }
+        let row = self.segments[segment].row;
+        let before = self.bits_at(self.segments[segment.wrapping_sub(1)].row);
+        let here = self.bits_at(row);
+        let before = self.running.part(before, before.wrapping_add(self.words));
+        let here = self.running.part(here, here.wrapping_add(self.words));
+        if before.iter().zip(here).all(|(before, here)| before == here) {
+            self.spare.push(row)?;
             self.segments.remove(segment);
         }
         Ok(())
-    }
-
-    /// The room of each resource in a segment.
-    fn room_in(&self, segment: u32) -> &[i32] {
-        let from = self.room_at(segment);
-        self.room.part(from, from.wrapping_add(self.resources))
     }
 
     /// An activity with these demands runs in a part from now on, or with a sign of -1 no more. Gives the segments.
@@ -143,38 +164,36 @@ impl Profile {
         part: Interval,
         sign: i32,
     ) -> Result<Range<u32>> {
-        let (from, to) = (self.cut(part.from)?, self.cut(part.to)?);
+        let from = self.cut(part.from)?;
+        let to = self.cut_after(from, part.to)?;
         let mask = 1u64.wrapping_shl(activity % 64);
-        for segment in from..to {
-            let word = self.bits_at(segment).wrapping_add(activity / 64);
+        for segment in self.segments.part(from, to) {
+            let word = segment
+                .row
+                .wrapping_mul(self.words)
+                .wrapping_add(activity / 64);
             self.running[word] ^= mask;
-            self.take(segment, demands, sign);
+            let at = segment.row.wrapping_mul(self.resources);
+            let rooms = self.room.part_mut(at, at.wrapping_add(self.resources));
+            for (room, demand) in rooms.iter_mut().zip(demands) {
+                *room = room.wrapping_sub(demand.wrapping_mul(sign));
+            }
         }
         Ok(from..to)
     }
 
-    /// Takes demands from the room of a segment, or gives them back.
-    #[inline(always)]
-    fn take(&mut self, segment: u32, demands: &[i32], sign: i32) {
-        let from = self.room_at(segment);
-        let room = self.room.part_mut(from, from.wrapping_add(self.resources));
-        for (room, demand) in room.iter_mut().zip(demands) {
-            *room = room.wrapping_sub(demand.wrapping_mul(sign));
-        }
-    }
-
     /// An activity that ran in a part doesn't.
     pub(crate) fn clear(&mut self, activity: u32, demands: &[i32], part: Interval) -> Result<()> {
-        self.put(activity, demands, part, -1)?;
-        self.join(part.from)?;
-        self.join(part.to)
+        let segments = self.put(activity, demands, part, -1)?;
+        self.join(segments.end)?;
+        self.join(segments.start)
     }
 
     /// Finds the least room of each resource in some segments.
     pub(crate) fn least_rooms(&self, segments: Range<u32>, least: &mut [i32]) {
         least.fill(i32::MAX);
-        for segment in segments {
-            for (least, room) in least.iter_mut().zip(self.room_in(segment)) {
+        for segment in self.segments.part(segments.start, segments.end) {
+            for (least, room) in least.iter_mut().zip(self.room_in(*segment)) {
                 *least = (*least).min(*room);
             }
         }
@@ -182,7 +201,10 @@ impl Profile {
 
     /// The first of the times at which some segments have least room of a resource.
     pub(crate) fn fullest(&self, resource: u32, segments: Range<u32>) -> i32 {
-        let room = |segment: &u32| self.room[self.room_at(*segment).wrapping_add(resource)];
+        let room = |segment: &u32| {
+            let at = self.segments[*segment].row.wrapping_mul(self.resources);
+            self.room[at.wrapping_add(resource)]
+        };
         segments
             .min_by_key(room)
             .map_or(0, |segment| self.begin(segment))
@@ -190,17 +212,48 @@ impl Profile {
 
     /// The first resource of which a segment has less room than is demanded; none in the activity's own part.
     #[inline(always)]
-    fn lacks(&self, segment: u32, demands: &[i32], own: Interval) -> Option<u32> {
-        let begin = self.begin(segment);
-        if own.from <= begin && begin < own.to {
+    fn lacks(&self, segment: Segment, demands: &[i32], own: Interval) -> Option<u32> {
+        if own.from <= segment.from && segment.from < own.to {
             return None;
         }
         let mut amounts = self.room_in(segment).iter().zip(demands);
         amounts.position(|(room, demand)| room < demand).map(narrow)
     }
 
+    /// The last time of a part at which there is no room for an activity beside its own part; and the resource.
+    fn last_full(&self, demands: &[i32], part: Interval, own: Interval) -> Option<(i32, u32)> {
+        let mut end = part.to;
+        let near = self.find(end.wrapping_sub(1));
+        for segment in self.segments.part(0, near.wrapping_add(1)).iter().rev() {
+            if end <= part.from {
+                break;
+            }
+            if let Some(resource) = self.lacks(*segment, demands, own) {
+                return Some((end.wrapping_sub(1), resource));
+            }
+            end = segment.from;
+        }
+        None
+    }
+
+    /// The first such time.
+    fn first_full(&self, demands: &[i32], part: Interval, own: Interval) -> Option<(i32, u32)> {
+        let near = self.find(part.from);
+        for segment in self.segments.part(near, self.segments.count()) {
+            let begin = segment.from.max(part.from);
+            if begin >= part.to {
+                break;
+            }
+            if let Some(resource) = self.lacks(*segment, demands, own) {
+                return Some((begin, resource));
+            }
+        }
+        None
+    }
+
     /// The last time of a part at which there is no room for an activity beside its own part, or the first one; and the
     /// resource.
+    #[inline(always)]
     pub fn full(
         &self,
         demands: &[i32],
@@ -208,38 +261,20 @@ impl Profile {
         own: Interval,
         is_last: bool,
     ) -> Option<(i32, u32)> {
-        let near = if is_last {
-            part.to.wrapping_sub(1)
+        if is_last {
+            self.last_full(demands, part, own)
         } else {
-            part.from
-        };
-        let mut segment = self.find(near);
-        for _ in 0..u64::MAX {
-            let next = segment.wrapping_add(1);
-            let begin = self.begin(segment).max(part.from);
-            let end = self.begin(next).min(part.to);
-            if begin >= end {
-                break;
-            }
-            if let Some(resource) = self.lacks(segment, demands, own) {
-                let time = if is_last { end.wrapping_sub(1) } else { begin };
-                return Some((time, resource));
-            }
-            segment = if is_last {
-                segment.wrapping_sub(1)
-            } else {
-                next
-            };
+            self.first_full(demands, part, own)
         }
-        None
     }
 
-    /// Lists the activities that run at a time.
-    pub fn list_running(&self, time: i32, list: &mut Vec<u32>) -> Result<()> {
+    /// Lists those of some activities, which are bits, that run at a time.
+    pub(crate) fn list_running(&self, time: i32, all: &[u64], list: &mut Vec<u32>) -> Result<()> {
         list.clear();
-        let first = self.bits_at(self.find(time));
-        for word in 0..self.words {
-            let mut bits = self.running[first.wrapping_add(word)];
+        let first = self.bits_at(self.segments[self.find(time)].row);
+        let running = self.running.part(first, first.wrapping_add(self.words));
+        for (word, (running, all)) in (0..self.words).zip(running.iter().zip(all)) {
+            let mut bits = *running & *all;
             for _ in 0..bits.count_ones() {
                 list.push(word.wrapping_mul(64).wrapping_add(bits.trailing_zeros()))?;
                 bits = bits & bits.wrapping_sub(1);

@@ -17,10 +17,16 @@ pub enum Reason {
     Order { order: u32 },
     /// The order of two rivals is impossible.
     Lost { order: u32 },
+    /// The reverse has no room beside the order of this slot, by lags.
+    Implied { slot: u32 },
+    /// The first of the two runs before this activity, and this one before the second.
+    Through { via: u32 },
     /// There is no room at this time.
     Full { resource: u32, time: i32 },
     /// Members of a clique that run before it, or after it, push it.
     Pushed { clique: u32, time: i32 },
+    /// In the other order members of a clique would have to run from one time to another, and need more time.
+    Edge { clique: u32, from: i32, to: i32 },
     /// All other literals of the lemma at this place are false.
     Lemma { place: u32 },
 }

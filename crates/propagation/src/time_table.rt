@@ -1,32 +1,45 @@
 //! The time table (Le Pape 1994): what activities that must run at a time leave free.
 
-use crate::profile::{Interval, NO_PART, Profile};
-use crate::{Conflict, Literal, Reason, Stop, Trail};
+use crate::needs::Needs;
+use crate::profile::{ALWAYS, Interval, NO_PART, Profile};
+use crate::{BoundChange, Conflict, Literal, Reason, Stop, Trail};
 use instance::{Instance, Result, Table, narrow};
+use std::mem;
 use std::ops::Range;
 
-/// The slots of activities that are to be looked at, the last one first.
+/// The slots of activities that are to be looked at, the last one first, each at the times that changed.
 #[derive(Drop)]
 struct Notes {
-    is_noted: Table<bool>,
+    times: Table<Interval>,
     todo: Vec<u32>,
 }
 
 impl Notes {
-    /// A slot is to be looked at.
+    /// A slot is to be looked at, at these times.
     #[inline(always)]
-    fn note(&mut self, slot: u32) -> Result<()> {
-        if !self.is_noted[slot] {
-            self.is_noted[slot] = true;
+    fn note(&mut self, slot: u32, times: Interval) -> Result<()> {
+        let known = &mut self.times[slot];
+        if known.is_empty() {
+            *known = times;
             self.todo.push(slot)?;
+        } else {
+            known.from = known.from.min(times.from);
+            known.to = known.to.max(times.to);
         }
         Ok(())
+    }
+
+    /// The next slot, with the times.
+    #[inline(always)]
+    fn take(&mut self) -> Option<(u32, Interval)> {
+        let slot = self.todo.pop()?;
+        Some((slot, mem::replace(&mut self.times[slot], NO_PART)))
     }
 
     /// None is to be looked at.
     fn clear(&mut self) {
         for slot in &self.todo {
-            self.is_noted[*slot] = false;
+            self.times[*slot] = NO_PART;
         }
         self.todo.clear();
     }
@@ -41,6 +54,7 @@ pub struct TimeTable<'a> {
     /// By resource: the greatest demand, and what a part has left, if that is not enough for all.
     greatest_demands: Table<i32>,
     rooms: Table<i32>,
+    needs: Needs,
     /// Those that run for sure, whatever they need.
     pub profile: Profile,
     /// From its greatest start to its least end, by activity: what the profile has of it.
@@ -72,11 +86,12 @@ impl<'a> TimeTable<'a> {
             durations: Table::new(alloc, 0),
             greatest_demands: Table::new(alloc, 0),
             rooms: Table::new(alloc, 0),
+            needs: Needs::new(instance)?,
             profile: Profile::new(alloc, instance.count(), &capacities.items)?,
             parts: Table::new(alloc, NO_PART),
             changes: Table::new(alloc, (0, NO_PART)),
             notes: Notes {
-                is_noted: Table::new(alloc, true),
+                times: Table::new(alloc, NO_PART),
                 todo: Vec::new(alloc),
             },
             queue: 0,
@@ -93,11 +108,29 @@ impl<'a> TimeTable<'a> {
         self.greatest_demands.fill(kinds, 0)?;
         self.rooms.fill(kinds, 0)?;
         self.parts.fill(count, NO_PART)?;
-        self.notes.is_noted.fill(count.wrapping_mul(2), false)?;
+        self.notes.times.fill(count.wrapping_mul(2), NO_PART)?;
         for resource in resources {
             self.take_users(*resource)?;
         }
+        for resource in 0..narrow(kinds) {
+            self.take_needs(resource)?;
+        }
         Ok(())
+    }
+
+    /// Takes what users need of a resource, if it is one that the table is for.
+    fn take_needs(&mut self, resource: u32) -> Result<()> {
+        let mut users = self.instance.users(resource)?;
+        if self.greatest_demands[resource] == 0 {
+            users.clear();
+        }
+        self.needs.take(self.instance, &users, resource)
+    }
+
+    /// Lists the users of a resource that run at a time for sure.
+    pub fn list_running(&self, resource: u32, time: i32, list: &mut Vec<u32>) -> Result<()> {
+        self.profile
+            .list_running(time, self.needs.users(resource), list)
     }
 
     /// Takes the users of a resource.
@@ -122,6 +155,7 @@ impl<'a> TimeTable<'a> {
         };
         let (now, demands) = (self.parts[activity], self.instance.demands(activity));
         self.parts[activity] = old;
+        self.needs.fix(activity, false);
         for part in now.more_than(old).iter().filter(|part| !part.is_empty()) {
             self.profile.clear(activity, demands, *part)?;
         }
@@ -138,42 +172,58 @@ impl<'a> TimeTable<'a> {
         Ok(())
     }
 
-    /// Notes those that may be pushed by a part: they need more of a resource than it has left.
-    fn note_pushed(&mut self, trail: &Trail, part: Interval) -> Result<()> {
-        let windows = trail.values().items.chunks_exact(2);
-        let windows = windows.zip(&self.durations.items);
-        for (activity, (window, duration)) in (0..self.parts.count()).zip(windows) {
-            let (least, greatest) = (window[0], window[1].wrapping_neg());
-            let meets = |start: i32| start < part.to && start.wrapping_add(*duration) > part.from;
-            if (meets(least) || meets(greatest)) && least < greatest && *duration > 0 {
-                let mut needs = self.rooms.items.iter().zip(self.instance.demands(activity));
-                if needs.any(|(room, demand)| demand > room) {
-                    let slot = activity.wrapping_mul(2);
-                    for (start, slot) in [(least, slot), (greatest, slot.wrapping_add(1))] {
-                        if meets(start) {
-                            self.notes.note(slot)?;
-                        }
-                    }
-                }
+    /// An activity that is short of a resource in a part is to be looked at, if it would run there.
+    #[inline(always)]
+    fn note_pushed(&mut self, trail: &Trail, activity: u32, part: Interval) -> Result<()> {
+        let slot = activity.wrapping_mul(2);
+        let (least, greatest) = (trail.least(activity), trail.greatest(activity));
+        if least == greatest {
+            return Ok(());
+        }
+        let before = part.from.wrapping_sub(self.durations[activity]);
+        for (start, slot) in [(least, slot), (greatest, slot.wrapping_add(1))] {
+            if start < part.to && start > before {
+                self.notes.note(slot, part)?;
             }
         }
         Ok(())
     }
 
-    /// Finds what a part has left of what an activity takes of it, where that is not enough for all. Whether there is such.
-    fn find_rooms(&mut self, demands: &[i32], segments: Range<u32>) -> bool {
+    /// Notes those of a word that may be pushed by a part.
+    fn note_word(&mut self, trail: &Trail, word: u32, part: Interval) -> Result<()> {
+        let mut bits = self.needs.take_short(word);
+        for _ in 0..bits.count_ones() {
+            let activity = word.wrapping_mul(64).wrapping_add(bits.trailing_zeros());
+            bits = bits & bits.wrapping_sub(1);
+            self.note_pushed(trail, activity, part)?;
+        }
+        Ok(())
+    }
+
+    /// Notes those that may be pushed by a part: they need more of a resource than it has left.
+    fn note_short(&mut self, trail: &Trail, part: Interval) -> Result<()> {
+        for word in 0..self.needs.words() {
+            self.note_word(trail, word, part)?;
+        }
+        Ok(())
+    }
+
+    /// Finds the least room in some segments, and who needs more of a resource that an activity takes of. The first resource
+    /// of which there is too little.
+    fn find_short(&mut self, demands: &[i32], segments: Range<u32>) -> Option<u32> {
         self.profile
             .least_rooms(segments, self.rooms.items.as_mut_slice());
-        let mut is_short = false;
-        let greatest = &self.greatest_demands.items;
-        for ((room, demand), most) in self.rooms.items.iter_mut().zip(demands).zip(greatest) {
-            if *demand == 0 || *room >= *most {
-                *room = i32::MAX;
-            } else {
-                is_short = true;
+        for resource in 0..self.rooms.count() {
+            let (room, demand) = (self.rooms[resource], demands.get(resource as usize));
+            if demand.is_some_and(|demand| *demand > 0) && room < self.greatest_demands[resource] {
+                if room < 0 {
+                    self.needs.clear_short();
+                    return Some(resource);
+                }
+                self.needs.add_short(resource, room);
             }
         }
-        is_short
+        None
     }
 
     /// An activity must run in a part more. Gives a conflict if that is too much.
@@ -181,14 +231,10 @@ impl<'a> TimeTable<'a> {
         let demands = self.instance.demands(activity);
         let segments = self.profile.put(activity, demands, part, 1)?;
         let (from, to) = (segments.start, segments.end);
-        if !self.find_rooms(demands, segments) {
-            return Ok(None);
-        }
-        let Some(resource) = self.rooms.items.iter().position(|room| *room < 0) else {
-            self.note_pushed(trail, part)?;
+        let Some(resource) = self.find_short(demands, segments) else {
+            self.note_short(trail, part)?;
             return Ok(None);
         };
-        let resource = narrow(resource);
         let time = self.profile.fullest(resource, from..to);
         Ok(Some(Conflict::Overload { resource, time }))
     }
@@ -206,6 +252,9 @@ impl<'a> TimeTable<'a> {
         }
         self.changes.push((activity, old))?;
         self.parts[activity] = new;
+        if new.to.wrapping_sub(new.from) == duration {
+            self.needs.fix(activity, true);
+        }
         let mut overload = None;
         for part in new.more_than(old).iter().filter(|part| !part.is_empty()) {
             overload = overload.or(self.fill(trail, activity, *part)?);
@@ -213,19 +262,33 @@ impl<'a> TimeTable<'a> {
         overload.map_or(Ok(()), |conflict| Err(Stop::Conflict(conflict)))
     }
 
-    /// Takes notice of an event of a slot.
-    fn notice(&mut self, trail: &Trail, slot: u32) -> Result<(), Stop> {
-        if self.durations[slot / 2] > 0 {
-            self.grow(trail, slot / 2)?;
-            self.notes.note(slot)?;
+    /// Takes notice of all activities, at the start.
+    pub fn begin(&mut self, trail: &Trail) -> Result<(), Stop> {
+        for slot in 0..self.parts.count().wrapping_mul(2) {
+            let duration = self.durations[slot / 2];
+            if duration > 0 {
+                self.grow(trail, slot / 2)?;
+                self.notes.note(slot, ALWAYS)?;
+            }
         }
         Ok(())
     }
 
-    /// Takes notice of all activities, at the start.
-    pub fn begin(&mut self, trail: &Trail) -> Result<(), Stop> {
-        for slot in 0..self.parts.count().wrapping_mul(2) {
-            self.notice(trail, slot)?;
+    /// Takes notice of an event: the activity may run now at times at which it was not looked at.
+    #[inline(always)]
+    fn notice(&mut self, trail: &Trail, event: &BoundChange) -> Result<(), Stop> {
+        let duration = self.durations[event.slot / 2];
+        if duration > 0 {
+            self.grow(trail, event.slot / 2)?;
+            let times = if event.slot % 2 == 0 {
+                let from = event.old.wrapping_add(duration);
+                let to = event.new.wrapping_add(duration);
+                Interval { from, to }
+            } else {
+                let (from, to) = (event.new.wrapping_neg(), event.old.wrapping_neg());
+                Interval { from, to }
+            };
+            self.notes.note(event.slot, times)?;
         }
         Ok(())
     }
@@ -234,21 +297,27 @@ impl<'a> TimeTable<'a> {
     pub fn step(&mut self, trail: &mut Trail) -> Result<bool, Stop> {
         for number in self.queue..trail.count() {
             self.queue = number.wrapping_add(1);
-            self.notice(trail, trail.event(number).slot)?;
+            let event = trail.event(number);
+            self.notice(trail, &event)?;
         }
-        let Some(slot) = self.notes.todo.pop() else {
+        let Some((slot, times)) = self.notes.take() else {
             return Ok(false);
         };
-        self.notes.is_noted[slot] = false;
-        self.push(trail, slot / 2, slot % 2 == 0)?;
+        self.push(trail, slot / 2, slot % 2 == 0, times)?;
         Ok(true)
     }
 
     /// Moves a least start to where the profile leaves room, past the last time without; or a greatest one, to where the
-    /// activity ends by the first such time.
-    fn push(&self, trail: &mut Trail, activity: u32, is_least: bool) -> Result<(), Stop> {
+    /// activity ends by the first such time. Only these times are looked at, and then those that a move makes new.
+    fn push(
+        &self,
+        trail: &mut Trail,
+        activity: u32,
+        is_least: bool,
+        times: Interval,
+    ) -> Result<(), Stop> {
         let (demands, own) = (self.instance.demands(activity), self.parts[activity]);
-        let duration = self.durations[activity];
+        let (duration, mut times) = (self.durations[activity], times);
         for _ in 0..u64::MAX {
             let from = if is_least {
                 trail.least(activity)
@@ -256,13 +325,22 @@ impl<'a> TimeTable<'a> {
                 trail.greatest(activity)
             };
             let to = from.wrapping_add(duration);
-            let part = Interval { from, to };
+            let part = Interval {
+                from: from.max(times.from),
+                to: to.min(times.to),
+            };
+            if part.is_empty() {
+                break;
+            }
             let Some((time, resource)) = self.profile.full(demands, part, own, is_least) else {
                 break;
             };
-            let literal = match is_least {
-                true => Literal::at_least(activity, time.wrapping_add(1)),
-                false => Literal::at_most(activity, time.wrapping_sub(duration)),
+            let literal = if is_least {
+                times = Interval { from: to, ..ALWAYS };
+                Literal::at_least(activity, time.wrapping_add(1))
+            } else {
+                times = Interval { to: from, ..ALWAYS };
+                Literal::at_most(activity, time.wrapping_sub(duration))
             };
             trail.force(literal, Reason::Full { resource, time })?;
         }
