@@ -138,6 +138,7 @@ impl Engine<'_> {
         match reason {
             Reason::Lemma { place } => self.lemmas.touch(place),
             Reason::Edge { clique, .. } => self.cliques.pay(clique),
+            Reason::Energy { resource, .. } => self.energy.pay(resource),
             _ => {}
         }
     }

@@ -2,9 +2,10 @@
 //! value that it needs, and put behind those in `marks.found`.
 
 use crate::LineReason;
+use crate::explain_energy::Overload;
 use crate::state::Engine;
 use instance::Result;
-use propagation::{Conflict, Literal, NEVER, Reason, part};
+use propagation::{Conflict, Literal, NEVER, Reason};
 
 impl Engine<'_> {
     /// The literals that make an activity run for `part` periods from one time to another at least.
@@ -47,7 +48,9 @@ impl Engine<'_> {
                 self.explain(literal, reason, now)
             }
             Conflict::Overload { resource, time } => self.explain_full(NEVER, resource, time, now),
-            Conflict::Energy { resource, from, to } => self.explain_energy(resource, from, to),
+            Conflict::Energy { resource, from, to } => {
+                self.explain_energy(NEVER, Overload { resource, from, to }, now)
+            }
             Conflict::Clique { clique, from, to } => self.explain_clique(clique, from, to),
             Conflict::Lemma { place } => {
                 self.lemmas.touch(place);
@@ -97,6 +100,9 @@ impl Engine<'_> {
             }
             Reason::Pushed { clique, time } => self.explain_push(literal, clique, time, now),
             Reason::Full { resource, time } => self.explain_full(literal, resource, time, now),
+            Reason::Energy { resource, from, to } => {
+                self.explain_energy(literal, Overload { resource, from, to }, now)
+            }
         }
     }
 
@@ -153,45 +159,6 @@ impl Engine<'_> {
             let activity = self.marks.activities[at];
             let literals = self.inside(activity, 1, from, to);
             self.marks.find(literals)?;
-        }
-        Ok(LineReason::Load { resource, from, to })
-    }
-
-    /// Lists the parts of activities from one time to another. Gives what they need beyond what there is.
-    fn list_parts(&mut self, resource: u32, from: i32, to: i32) -> Result<i64> {
-        let length = i64::from(to.wrapping_sub(from));
-        let room = i64::from(self.instance.capacities[resource]).wrapping_mul(length);
-        let mut spare = room.wrapping_neg().wrapping_sub(1);
-        self.marks.causes.items.clear();
-        for activity in 0..self.instance.count() {
-            let (least, greatest) = (self.trail.least(activity), self.trail.greatest(activity));
-            let part = part(least, greatest, self.instance.durations[activity], from, to);
-            let demand = self.instance.demand(activity, resource);
-            if part > 0 && demand > 0 {
-                let literals = self.inside(activity, part, from, to);
-                self.note_cause(activity, part, literals, u32::MAX)?;
-                spare = spare.wrapping_add(i64::from(part).wrapping_mul(i64::from(demand)));
-            }
-        }
-        Ok(spare)
-    }
-
-    /// Parts of activities that need more than there is: what is more goes from those that came last.
-    fn explain_energy(&mut self, resource: u32, from: i32, to: i32) -> Result<LineReason> {
-        let mut spare = self.list_parts(resource, from, to)?;
-        self.marks.causes.items.sort_unstable();
-        for at in (0..self.marks.causes.count()).rev() {
-            let (event, part, activity) = self.marks.causes[at];
-            let demand = i64::from(self.instance.demand(activity, resource).max(1));
-            let less = (spare / demand).clamp(0, i64::from(part.max(0))) as i32;
-            if event == 0 {
-                break;
-            }
-            spare = spare.wrapping_sub(i64::from(less).wrapping_mul(demand));
-            if less < part {
-                let literals = self.inside(activity, part.wrapping_sub(less), from, to);
-                self.marks.find(literals)?;
-            }
         }
         Ok(LineReason::Load { resource, from, to })
     }

@@ -9,6 +9,7 @@ mod analysis;
 mod choices;
 mod explain;
 mod explain_cliques;
+mod explain_energy;
 mod heap;
 mod imports;
 mod log;

@@ -1,11 +1,13 @@
 //! What an analysis notes of events.
 
 use crate::analysis::Frame;
+use crate::explain_energy::Part;
 use crate::{Inference, LineReason};
 use instance::{Result, Table};
 use propagation::{Literal, NEVER, Trail};
 use std::alloc::Global;
 use std::cmp::Reverse;
+use std::collections::BinaryHeap;
 
 /// No value.
 const NO_VALUE: i32 = i32::MIN;
@@ -30,6 +32,9 @@ pub(crate) struct Marks {
     pub(crate) causes: Table<(u32, i32, u32)>,
     /// A list that explanations work on.
     pub(crate) activities: Table<u32>,
+    /// Parts of activities in an explanation of energy; and the last event that each needs, with the slot and the part's place.
+    pub(crate) parts: Table<Part>,
+    pub(crate) latest: BinaryHeap<(u32, u32, u32)>,
     /// What is_redundant works on.
     pub(crate) frames: Vec<Frame>,
     /// Literals that were replaced by what they follow from, each with its event.
@@ -51,6 +56,8 @@ impl Marks {
             found: Table::new(alloc, NEVER),
             causes: Table::new(alloc, (0, 0, 0)),
             activities: Table::new(alloc, 0),
+            parts: Table::new(alloc, Part::default()),
+            latest: BinaryHeap::new(alloc),
             frames: Vec::new(alloc),
             replaced: Vec::new(alloc),
             nogood: Vec::new(alloc),

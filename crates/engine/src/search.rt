@@ -4,7 +4,7 @@ use crate::LineReason;
 use crate::analysis::Learnt;
 use crate::state::Engine;
 use instance::Result;
-use propagation::{Conflict, Literal, Reason, Stop, find_overloads};
+use propagation::{Conflict, Literal, Reason, Stop};
 use std::alloc::AllocError;
 
 /// So many conflicts come before a restart at least.
@@ -217,7 +217,7 @@ impl Engine<'_> {
         Ok(())
     }
 
-    /// Looks at energy and at long cliques, where a supposed end, a path or nothing is all that is decided.
+    /// Looks at long cliques, where a supposed end, a path or nothing is all that is decided.
     fn find_overloads(&mut self, first: &[Literal]) -> Result<(), Stop> {
         let is_short = first.len() < 2 || self.has_path;
         let is_near = is_short && self.trail.level() as usize <= first.len().min(1);
@@ -227,7 +227,6 @@ impl Engine<'_> {
             first.first().copied(),
         );
         if is_near && self.seen != Some(place) {
-            find_overloads(self.instance, &self.trail)?;
             self.cliques.find_overloads(&self.trail)?;
             self.seen = Some(place);
         }

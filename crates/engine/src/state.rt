@@ -8,7 +8,7 @@ use crate::{LineReason, Log, Slots};
 use instance::{
     Edge, Instance, Result, Rows, Settled, Table, Walks, greedy_cliques, settle, start_sequence,
 };
-use propagation::{Cliques, Edges, Lemmas, Literal, Stop, TimeTable, Trail};
+use propagation::{Cliques, Edges, Energy, Lemmas, Literal, Stop, TimeTable, Trail};
 
 /// What a search is made with.
 #[derive(Clone, Copy)]
@@ -49,6 +49,7 @@ pub struct Engine<'a> {
     pub(crate) edges: Edges,
     pub(crate) table: TimeTable<'a>,
     pub(crate) cliques: Cliques<'a>,
+    pub(crate) energy: Energy<'a>,
     pub(crate) lemmas: Lemmas,
     /// What others have proved and it has not looked at yet, and the count of conflicts when it did so last.
     pub(crate) imports: Vec<Import>,
@@ -63,7 +64,7 @@ pub struct Engine<'a> {
     queue: u32,
     /// How many changes the time table had when each level began.
     table_marks: Table<u32>,
-    /// Where energy was looked at last and there was enough: how many events there were, how many of the root, and what was supposed.
+    /// Where long cliques were looked at last: how many events there were, how many of the root, and what was supposed.
     pub(crate) seen: Option<(u32, u32, Option<Literal>)>,
     /// Whether no schedule is left.
     pub is_refuted: bool,
@@ -106,12 +107,21 @@ fn may_overlap(instance: &Instance, settled: &Settled, users: &[u32]) -> bool {
     false
 }
 
-/// The resources of which some users may run at once.
+/// Whether a resource is not enough for all of its users at once.
+fn is_scarce(instance: &Instance, resource: u32, users: &[u32]) -> bool {
+    let mut sum = 0i64;
+    for user in users {
+        sum = sum.wrapping_add(i64::from(instance.demand(*user, resource)));
+    }
+    sum > i64::from(instance.capacities[resource])
+}
+
+/// The resources of which some users may run at once, but not all.
 fn shared_resources(instance: &Instance, settled: &Settled) -> Result<Vec<u32>> {
     let mut shared = Vec::new(instance.alloc);
     for resource in 0..instance.resource_count() {
         let users = instance.users(resource)?;
-        if may_overlap(instance, settled, &users) {
+        if is_scarce(instance, resource, &users) && may_overlap(instance, settled, &users) {
             shared.push(resource)?;
         }
     }
@@ -151,9 +161,10 @@ struct Propagators<'a> {
     edges: Edges,
     table: TimeTable<'a>,
     cliques: Cliques<'a>,
+    energy: Energy<'a>,
 }
 
-/// The propagators of a search that has followed nothing yet, for resources of which some users may run at once.
+/// The propagators of a search that has followed nothing yet, for resources that some users may share, but not all.
 fn propagators_of<'a>(
     instance: &'a Instance,
     settled: &Settled,
@@ -163,12 +174,14 @@ fn propagators_of<'a>(
     let edges = Edges::new(instance, settled)?;
     let cliques = cliques_of(instance, settled, &edges, options.has_cliques)?;
     let table = TimeTable::new(instance, resources)?;
+    let energy = Energy::new(instance, resources)?;
     let values = first_values(instance, settled, options.most)?;
     Ok(Propagators {
         trail: Trail::new(instance.alloc, values)?,
         edges,
         table,
         cliques,
+        energy,
     })
 }
 
@@ -244,6 +257,7 @@ impl<'a> Engine<'a> {
             edges,
             table,
             cliques,
+            energy,
         } = propagators;
         let Learning {
             lemmas,
@@ -257,6 +271,7 @@ impl<'a> Engine<'a> {
             edges,
             table,
             cliques,
+            energy,
             lemmas,
             imports: Vec::new(instance.alloc),
             looked: done.conflicts,
@@ -325,11 +340,20 @@ impl<'a> Engine<'a> {
             if self.queue >= self.trail.count() {
                 self.cliques.find_edges(&mut self.trail, &self.edges)?;
             }
+            // Energy helps to refute. A neighbourhood is to find, soon.
+            if self.queue >= self.trail.count() && !self.is_neighbourhood() {
+                self.energy.run(&mut self.trail)?;
+            }
             if self.queue >= self.trail.count() {
                 break;
             }
         }
         Ok(())
+    }
+
+    /// Whether several decisions that are no path stand on the first level, as those of a neighbourhood do.
+    fn is_neighbourhood(&self) -> bool {
+        self.floor > 0 && !self.has_path
     }
 
     /// A level begins: a choice, or the first decisions, of which no two contradict each other.
@@ -355,6 +379,7 @@ impl<'a> Engine<'a> {
         self.table.go_back(self.table_marks[level], begin)?;
         self.table_marks.truncate(level);
         self.cliques.go_back(begin);
+        self.energy.go_back(begin);
         self.choices.go_back(&self.trail, level)?;
         self.queue = begin;
         Ok(())

@@ -4,7 +4,7 @@
 
 use crate::clique_changes::{ANY_RISE, CliqueChanges, NO_CHANGE, NO_RISES, Rises, Set, Side, bit};
 use crate::edges::Edges;
-use crate::pay::{NO_PAY, Pay};
+use crate::pay::Pay;
 use crate::windows::{Window, overload, reached, renew_all};
 use crate::{BoundChange, Conflict, Literal, NEVER, Reason, Stop, Trail};
 use instance::{Instance, Result, Rows, Table, narrow};
@@ -106,7 +106,7 @@ impl<'a> Cliques<'a> {
             todo: Vec::new(alloc),
             rises: Table::new(alloc, NO_RISES),
             later: Vec::new(alloc),
-            pays: Table::new(alloc, NO_PAY),
+            pays: Table::new(alloc, Pay::new()),
             seats: Rows::new(alloc, Seat::default()),
             pairs: Rows::new(alloc, Seats::default()),
             queue: 0,
@@ -125,7 +125,7 @@ impl<'a> Cliques<'a> {
         self.after.fill(all, 0)?;
         self.news.fill(count, NO_CHANGE)?;
         self.rises.fill(count, NO_RISES)?;
-        self.pays.fill(count, NO_PAY)?;
+        self.pays.fill(count, Pay::new())?;
         self.seat_all()?;
         self.relate_all(edges)
     }

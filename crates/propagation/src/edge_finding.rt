@@ -42,7 +42,7 @@ impl Cliques<'_> {
                 break;
             };
             let rises = mem::replace(&mut self.rises[clique], NO_RISES);
-            if self.pays[clique].is_due() {
+            if self.pays[clique].take_chance() {
                 self.renew(trail, clique);
                 let found = self.find_edges_of(trail, edges, clique, rises);
                 self.pays[clique].note_look(1, found.is_err());
@@ -54,7 +54,7 @@ impl Cliques<'_> {
 
     /// An analysis has used an order that a clique gave.
     pub fn pay(&mut self, clique: u32) {
-        self.pays[clique].pay(USED);
+        self.pays[clique].reward(USED);
     }
 
     /// Looks for edges of a clique where times rose.

@@ -21,7 +21,7 @@ mod windows;
 
 pub use cliques::Cliques;
 pub use edges::{Arc, Edges, Order};
-pub use energy::{find_overloads, part};
+pub use energy::{Energy, part};
 pub use lemmas::Lemmas;
 pub use literal::{Literal, NEVER};
 pub use profile::{Interval, NO_PART, Profile};

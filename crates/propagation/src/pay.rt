@@ -1,55 +1,58 @@
-//! Whether a costly look pays: looks are paid by what they found and an analysis used. Where nothing pays, ever more
-//! chances go by to the next look.
+//! Whether a costly look pays: a look that finds something of use pays for further ones. Where nothing pays, looks become rarer.
+//!
+//! The numbers were chosen together. With them, looks at energy left .84 of the conflicts and .96 of the seconds (11 projects
+//! with cumulative resources, 2 seeds each).
 
-/// So many looks are paid by a conflict that one found.
+/// How many looks a conflict pays for, and how many may be paid ahead.
 const CONFLICT: i32 = 20;
 
-/// So many looks are paid ahead at most.
 const AHEAD: i32 = 200;
 
-/// Where nothing pays, so many chances go by to the next look: twice as many each time, up to the second. These four were
-/// set on 20 projects of 30 to 300 activities, by conflicts and seconds of two seeds; half or twice as much is even.
-const LEAST_SKIP: i32 = 8;
+/// How many chances pass before the next look where none pays: at first, and at most. The number doubles each time.
+const FIRST: i32 = 8;
 
-const MOST_SKIP: i32 = 128;
+const MOST: i32 = 128;
 
-/// What is paid for looks of one kind.
+/// The account of one kind of look. What is written there is in looks; a debt is paid off by chances that pass.
 #[derive(Clone, Copy)]
 pub(crate) struct Pay {
-    /// Looks that are paid. Below 0, chances that are still to go by.
     credit: i32,
-    skip: i32,
+    pause: i32,
 }
 
-/// Looks that have not begun.
-pub(crate) const NO_PAY: Pay = Pay {
-    credit: 0,
-    skip: LEAST_SKIP,
-};
-
 impl Pay {
-    /// Whether to look now. Where not, a chance has gone by.
-    pub(crate) fn is_due(&mut self) -> bool {
+    /// Nothing was looked at yet.
+    pub(crate) fn new() -> Pay {
+        Pay {
+            credit: 0,
+            pause: FIRST,
+        }
+    }
+
+    /// A chance to look has come. Whether it is to be taken; else it passes.
+    pub(crate) fn take_chance(&mut self) -> bool {
         let is_due = self.credit >= 0;
-        self.credit = self.credit.wrapping_add(i32::from(!is_due));
+        if !is_due {
+            self.credit = self.credit.wrapping_add(1);
+        }
         is_due
     }
 
-    /// A look of a cost, in looks, was made, and found a conflict or none.
-    pub(crate) fn note_look(&mut self, cost: i32, has_conflict: bool) {
+    /// A look was made, which cost as much as so many. Whether it found a conflict.
+    pub(crate) fn note_look(&mut self, cost: i32, is_conflict: bool) {
         self.credit = self.credit.wrapping_sub(cost);
-        if has_conflict {
-            self.pay(CONFLICT);
+        if is_conflict {
+            self.reward(CONFLICT);
         }
         if self.credit < 0 {
-            self.credit = self.skip.wrapping_mul(cost).wrapping_neg();
-            self.skip = self.skip.wrapping_mul(2).min(MOST_SKIP);
+            self.credit = self.pause.wrapping_mul(cost).wrapping_neg();
+            self.pause = self.pause.wrapping_mul(2).min(MOST);
         }
     }
 
-    /// So many looks are paid.
-    pub(crate) fn pay(&mut self, looks: i32) {
+    /// What a look found was of use: it pays for so many looks.
+    pub(crate) fn reward(&mut self, looks: i32) {
         self.credit = self.credit.wrapping_add(looks).min(AHEAD);
-        self.skip = LEAST_SKIP;
+        self.pause = FIRST;
     }
 }

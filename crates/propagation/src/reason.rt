@@ -27,6 +27,8 @@ pub enum Reason {
     Pushed { clique: u32, time: i32 },
     /// In the other order members of a clique would have to run from one time to another, and need more time.
     Edge { clique: u32, from: i32, to: i32 },
+    /// From one time to another it would take more of the resource than there is.
+    Energy { resource: u32, from: i32, to: i32 },
     /// All other literals of the lemma at this place are false.
     Lemma { place: u32 },
 }
