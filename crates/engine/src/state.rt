@@ -32,9 +32,12 @@ pub struct Options {
 pub struct SearchCounts {
     pub conflicts: u64,
     pub decisions: u64,
-    /// Events that were followed: the unit of effort.
+    /// Events that were followed.
     pub events: u64,
 }
+
+/// So many steps of a look at energy take about as long as an event.
+const STEPS: u64 = 200;
 
 /// The first reduction of the store comes after so many conflicts.
 const FIRST_REDUCTION: u64 = 2_000;
@@ -354,6 +357,11 @@ impl<'a> Engine<'a> {
     /// Whether several decisions that are no path stand on the first level, as those of a neighbourhood do.
     fn is_neighbourhood(&self) -> bool {
         self.floor > 0 && !self.has_path
+    }
+
+    /// What was done so far, in events: the cost of a strategy.
+    pub fn effort(&self) -> u64 {
+        self.counts.events.wrapping_add(self.energy.steps / STEPS)
     }
 
     /// A level begins: a choice, or the first decisions, of which no two contradict each other.
