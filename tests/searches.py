@@ -6,21 +6,31 @@ verdict of both. The starts of psprove have to pass `psmax check`, and its recor
 verify` and, below 100,000 bytes, by tests/verify_log.py. Then psprove alone solves N projects of 62 to 250 activities
 (40 by default), every second with four jobs, of which psmax can prove few. Ten projects are solved twice by the same
 words, which have to give the same bytes. Three projects, of which one has no schedule, are solved with all times
-multiplied by 997. The last line counts the projects."""
+multiplied by 997. The records of two have to have a line of each kind that only long searches write. The last line counts
+the projects."""
 import functools
+import io
 import pathlib
 from collections.abc import Sequence
 
 import harness
 import judges
 import projects
+import shops
 import verify
 from harness import Verdicts
+from verify_log import Clique, Lemma, Log, Push
 
 MOST_BYTES = 100_000
 
 # Seeds of small projects whose times are multiplied, the first without a schedule; and by how much.
 STRETCHED, FACTOR = (128, 7, 36), 997
+
+# Projects, and what their records show: an order by a clique is an edge, and a bound by a load of several periods energy.
+KINDS = (
+    (shops.project(shops.named("la02")), {"clique order", "clique bound"}),
+    (projects.wide(40, 2, 5), {"load bound", "load contradiction"}),
+)
 
 
 def small(seed: int) -> projects.Project:
@@ -111,6 +121,24 @@ def wrong_stretched(programs: tuple[str, str], folder: pathlib.Path, place: int)
     return search.wrong_answer(answer)
 
 
+def kind_of(push: Push) -> str:
+    """What a line shows, and by what; nothing of a load of one period, which the time table finds."""
+    if not isinstance(push.over, Clique) and push.over.end - push.over.start == 1:
+        return ""
+    by = "clique" if isinstance(push.over, Clique) else "load"
+    return f"{by} contradiction" if push.arc is None else f"{by} {'order' if min(push.arc[:2]) > 0 else 'bound'}"
+
+
+def wrong_kinds(programs: tuple[str, str], folder: pathlib.Path, place: int) -> str | None:
+    """Which kinds of lines the record of a project lacks, or what else is wrong with it, or None."""
+    project, wanted = KINDS[place]
+    search = Search(*programs, folder, f"kinds{place}", project.text())
+    told, answer = search.solve("--conflicts", "300")
+    lemmas = (event for event in Log(io.BytesIO(search.record.read_bytes())).events() if isinstance(event, Lemma))
+    missing = wanted - {kind_of(line) for lemma in lemmas for line in lemma.lines if isinstance(line, Push)}
+    return f"its record has no line of {sorted(missing)}" if missing else search.wrong_answer(answer)
+
+
 def verdicts(words: Sequence[str]) -> Verdicts:
     parser = harness.Words(__doc__, "psmax", "psprove")
     parser.add_argument("--seeded", type=int, default=2_000)
@@ -122,6 +150,7 @@ def verdicts(words: Sequence[str]) -> Verdicts:
             ("large", wrong_large, o.large),
             ("again", wrong_again, 10),
             ("stretched", wrong_stretched, len(STRETCHED)),
+            ("kinds", wrong_kinds, len(KINDS)),
         ):
             look = functools.partial(wrong, (o.psmax, o.psprove), folder)
             for seed, found in enumerate(harness.side_by_side(look, range(count))):
