@@ -1,6 +1,6 @@
-//! Explanations of energy: the parts that activities must run from one time to another, of which no more are kept than are
-//! needed (as Schutt, Feydy, Stuckey and Wallace 2011 do for other rules). What came last goes first: a bound falls to what it
-//! was before, where the rest is enough, and at the end as far as the rest allows.
+//! Explanations of energy: the parts that activities must run from one time to another, of which no more are kept than
+//! are needed (as Schutt, Feydy, Stuckey and Wallace 2011 do for other rules). What came last goes first: a bound
+//! falls to what it was before, where the rest is enough, and at the end as far as the rest allows.
 
 use crate::LineReason;
 use crate::state::Engine;
@@ -25,8 +25,8 @@ pub(crate) struct Part {
 }
 
 impl Engine<'_> {
-    /// Finds the literals by which activities need more than there is, as of an event; or by which they would if a literal did
-    /// not hold, which is none of a conflict.
+    /// Finds the literals by which activities need more than there is, as of an event; or by which they would if the
+    /// literal that is shown did not hold. A conflict shows none, `NEVER`.
     pub(crate) fn explain_energy(
         &mut self,
         shown: Literal,
@@ -34,7 +34,7 @@ impl Engine<'_> {
         now: u32,
     ) -> Result<LineReason> {
         let spare = self.list_parts(shown, overload, now)?;
-        let spare = self.lower_bounds(overload, spare)?;
+        let spare = self.weaken_parts(overload, spare)?;
         self.find_parts(overload, spare)?;
         let Overload { resource, from, to } = overload;
         Ok(LineReason::Load { resource, from, to })
@@ -68,8 +68,8 @@ impl Engine<'_> {
         i64::from(length).wrapping_mul(i64::from(demand))
     }
 
-    /// Lists the parts of activities, and what came last of each. The literal that is shown needs but the other bound of its
-    /// activity. Gives how much may go so that the rest is still too much.
+    /// Lists the parts of activities, and what came last of each. Of its own activity a literal that is shown needs the
+    /// other bound alone. Gives how much may go so that the rest is still too much.
     fn list_parts(&mut self, shown: Literal, overload: Overload, now: u32) -> Result<i64> {
         let Overload { resource, from, to } = overload;
         let capacity = i64::from(self.instance.capacities[resource]);
@@ -86,19 +86,19 @@ impl Engine<'_> {
             spare = spare.wrapping_add(self.amount(overload, user, found.length));
             if shown.variable() == user {
                 let [least, greatest] = self.inside(user, found.length, from, to);
-                self.marks
-                    .found
-                    .push(if shown.is_lower() { least } else { greatest })?;
+                let other = if shown.is_lower() { least } else { greatest };
+                self.marks.found.push(other)?;
             } else {
-                self.note_latest(overload, found, self.marks.parts.count(), u32::MAX)?;
+                let place = self.marks.parts.count();
+                self.note_latest(overload, found, place, u32::MAX)?;
                 self.marks.parts.push(found)?;
             }
         }
         Ok(spare)
     }
 
-    /// The last event before one that a part needs, but for what always holds or the nogood has already, and its slot. Event 0
-    /// if there is none.
+    /// The last event before one that a part needs, but for what always holds or the nogood has already, and its slot.
+    /// Event 0 if there is none.
     fn latest(&self, overload: Overload, part: Part, before: u32) -> (u32, u32) {
         let mut latest = (0, 0);
         let Overload { from, to, .. } = overload;
@@ -130,9 +130,9 @@ impl Engine<'_> {
         Ok(())
     }
 
-    /// Goes back over the events that parts need. Where the rest is enough, the bound is what it was before. Gives how much
-    /// may still go.
-    fn lower_bounds(&mut self, overload: Overload, spare: i64) -> Result<i64> {
+    /// Goes back over the events that parts need. Where the rest is enough, the bound is what it was before. Gives how
+    /// much may still go.
+    fn weaken_parts(&mut self, overload: Overload, spare: i64) -> Result<i64> {
         let mut spare = spare;
         for _ in 0..u64::MAX {
             let Some((event, slot, place)) = self.marks.latest.pop() else {
@@ -167,23 +167,27 @@ impl Engine<'_> {
         less
     }
 
+    /// How many periods of a part may go, of so much that may.
+    fn most_lost(&self, overload: Overload, part: Part, spare: i64) -> i32 {
+        let demand = self.instance.demand(part.activity, overload.resource);
+        let periods = spare / i64::from(demand.max(1));
+        periods.clamp(0, i64::from(part.length.max(0))) as i32
+    }
+
     /// Finds the literals of the parts that are left, of which so much may still go.
     fn find_parts(&mut self, overload: Overload, spare: i64) -> Result<()> {
-        let Overload { resource, from, to } = overload;
         let mut spare = spare;
         for place in 0..self.marks.parts.count() {
-            let left = self.marks.parts[place];
-            let activity = left.activity;
-            let mut length = left.length;
-            if self.latest(overload, left, u32::MAX).0 > 0 {
-                let demand = i64::from(self.instance.demand(activity, resource).max(1));
-                let most = i64::from(length.max(0));
-                let lost = (spare / demand).clamp(0, most) as i32;
-                spare = spare.wrapping_sub(i64::from(lost).wrapping_mul(demand));
+            let whole = self.marks.parts[place];
+            let mut length = whole.length;
+            if self.latest(overload, whole, u32::MAX).0 > 0 {
+                let lost = self.most_lost(overload, whole, spare);
+                spare = spare.wrapping_sub(self.amount(overload, whole.activity, lost));
                 length = length.wrapping_sub(lost);
             }
             if length > 0 {
-                let literals = self.inside(activity, length, from, to);
+                let Overload { from, to, .. } = overload;
+                let literals = self.inside(whole.activity, length, from, to);
                 self.marks.find(literals)?;
             }
         }

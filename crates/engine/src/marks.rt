@@ -32,7 +32,8 @@ pub(crate) struct Marks {
     pub(crate) causes: Table<(u32, i32, u32)>,
     /// A list that explanations work on.
     pub(crate) activities: Table<u32>,
-    /// Parts of activities in an explanation of energy; and the last event that each needs, with the slot and the part's place.
+    /// Parts of activities in an explanation of energy; and by each, the last event that it needs, with its slot and the
+    /// place of the part.
     pub(crate) parts: Table<Part>,
     pub(crate) latest: BinaryHeap<(u32, u32, u32)>,
     /// What is_redundant works on.
