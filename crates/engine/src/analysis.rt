@@ -245,16 +245,22 @@ impl Engine<'_> {
                 .reaches(from, to, literal.value.wrapping_sub(by.value))
     }
 
+    /// Whether other literals of the nogood, or the first one, imply one by lags.
+    fn is_implied(&self, first: Literal, literal: Literal) -> bool {
+        let mut is_implied = self.implies(first, literal);
+        for by in &self.marks.nogood {
+            is_implied = is_implied || self.implies(*by, literal);
+        }
+        is_implied
+    }
+
     /// Leaves out of the nogood what its other literals, or the first one, imply by lags.
     fn leave_implied(&mut self, first: Literal) {
         for at in (0..self.marks.nogood.len()).rev() {
-            let nogood = &self.marks.nogood;
-            let Some(literal) = nogood.get(at).copied() else {
+            let Some(literal) = self.marks.nogood.get(at).copied() else {
                 break;
             };
-            let is_implied = self.implies(first, literal)
-                || nogood.iter().any(|by: &Literal| self.implies(*by, literal));
-            if is_implied {
+            if self.is_implied(first, literal) {
                 self.marks.nogood.swap_remove(at);
             }
         }
