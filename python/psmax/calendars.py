@@ -2,6 +2,7 @@
 import datetime
 from bisect import bisect_left
 from collections.abc import Sequence
+from fractions import Fraction
 from math import gcd
 
 from .date_style import DateStyle, weekday
@@ -67,6 +68,10 @@ class Calendar:
     def round(self) -> int:
         """After so many periods the days of the week are the same again."""
         return 1
+
+    def periods_a_day(self) -> Fraction | None:
+        """How many periods any 24 hours have; none where some have fewer."""
+        return None
 
     def holidays_of(self) -> list[datetime.datetime]:
         return []
@@ -156,6 +161,9 @@ class Days(Calendar):
     def without_holidays(self) -> Calendar:
         return Days(self.first, self.step, self.workdays, frozenset())
 
+    def periods_a_day(self) -> Fraction | None:
+        return Fraction(1, self.step) if len(self.workdays) == 7 and not self.holidays else None
+
     def round(self) -> int:
         return len(self.workdays)
 
@@ -200,6 +208,9 @@ class Moments(Calendar):
     def round(self) -> int:
         """A day, in whole periods; where these don't divide it, as many as a number of days has."""
         return int(DAY / MINUTE) // gcd(int(DAY / MINUTE), int(self.length / MINUTE))
+
+    def periods_a_day(self) -> Fraction:
+        return Fraction(int(DAY / MINUTE), int(self.length / MINUTE))
 
     def changes(self) -> int:
         days = [(self.first + day * DAY).astimezone(self.zone).utcoffset() or ZERO for day in range(YEARS * 366)]
@@ -254,6 +265,10 @@ class Shifts(Calendar):
     def without_holidays(self) -> Calendar:
         days = Days(self.days.first, 1, self.days.workdays, frozenset())
         return Shifts(self.first, self.minutes, days, self.shift)
+
+    def periods_a_day(self) -> Fraction | None:
+        is_all_day = len(self.slots) * minutes_of(self.minutes) == DAY
+        return Fraction(len(self.slots)) if is_all_day and self.days.periods_a_day() else None
 
     def round(self) -> int:
         return len(self.slots) * len(self.days.workdays)

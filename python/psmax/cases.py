@@ -80,8 +80,9 @@ def by_horizon(project: Project) -> list[Arc]:
         longest[tail] = max(longest[tail], lag)
     for one in project.dated:
         longest[one.first] = max(longest[one.first], one.base + one.most())
-    quiet = max([longest[0], *(max(one.begins, one.ends or 0) for one in project.absences), *project.due.values(),
-                 *(one.calendar.quiet() for one in project.dated)])
+    quiet = max([longest[0], *(max(one.begins, one.ends or 0) for one in project.all_absences()),
+                 *project.due.values(),
+                 *(one.quiet() for one in project.dated)])
     horizon = quiet + sum(longest[1:]) + max(project.durations) + (project.end + 1) * (round_of + 1)
     if not round_of or horizon > MOST_UNITS or len(project.arcs) + project.end > MOST_ARCS // 2:
         return []

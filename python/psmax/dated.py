@@ -59,6 +59,10 @@ class DatedLag:
         """The most periods that it can be."""
         return everywhere(self.calendar, self.days, self.from_end, self.is_least)[1]
 
+    def quiet(self) -> int:
+        """The time from which on one round of the calendar is like another."""
+        return self.calendar.quiet()
+
     def within(self, soonest: int, latest: int) -> Arc:
         """Its arc where the first activity starts from the soonest to the latest start."""
         if latest - soonest > LONGEST:

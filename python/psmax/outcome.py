@@ -1,6 +1,7 @@
 """What a search knows at its end, by the JSON and the record of a program."""
 import json
 import os
+from collections.abc import Sequence
 from dataclasses import dataclass
 
 from .files import read_bytes
@@ -57,8 +58,9 @@ class Solved(Claim):
 def of_answer(out: bytes, record: str, spelled: ProjectText) -> Solved:
     """What a program answers in JSON, with the record in this file. Any other answer raises one of `ODD`."""
     answer = json.loads(out)
-    starts = None if answer["starts"] is None else spelled.outward(tuple(answer["starts"]))
+    starts = None if answer["starts"] is None else known_starts(answer["starts"], spelled)
     value, bound = (None if answer[key] is None else spelled.value(answer[key]) for key in ("makespan", "bound"))
+    value = None if starts is None else value
     data = read_bytes(record, None) if os.path.exists(record) else b""
     return Solved(value, starts, bound, answer.get("conflicts", 0), data, spelled.project.goal)
 
@@ -66,9 +68,16 @@ def of_answer(out: bytes, record: str, spelled: ProjectText) -> Solved:
 def of_report(line: str, spelled: ProjectText) -> Solved:
     """What psprove's book holds while it searches, in JSON. Any other line raises one of `ODD`."""
     told = json.loads(line)
-    starts = spelled.outward(tuple(told["starts"])) if "starts" in told else None
+    starts = known_starts(told["starts"], spelled) if "starts" in told else None
     value = None if starts is None else starts[-1]
     return Solved(value, starts, spelled.value(told["bound"]), 0, b"", spelled.project.goal, found=told.get("found", ""))
+
+
+def known_starts(told: Sequence[int], spelled: ProjectText) -> tuple[int, ...] | None:
+    """The starts of the project; none where something needs a resource when its hours are not known any more. A bound that the
+    program proves is one all the same, since the text leaves more schedules than there are."""
+    starts = spelled.outward(tuple(told))
+    return None if spelled.project.beyond(starts) else starts
 
 
 ODD = (ValueError, LookupError, TypeError)

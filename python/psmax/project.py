@@ -31,6 +31,14 @@ class Absence(NamedTuple):
     units: int
 
 
+class Off(NamedTuple):
+    """A time outside the hours of a resource: none of it is there."""
+
+    resource: int
+    begins: int
+    ends: int
+
+
 class Goal(Enum):
     """What is minimized: when the last activity ends, or how late the latest is behind its due date."""
 
@@ -68,6 +76,8 @@ class Project:
     due: Mapping[int, int] = field(default_factory=dict)  # when activities should have ended
     goal: Goal = Goal.MAKESPAN
     dated: tuple["DatedLag", ...] = ()  # what some of the arcs, which every date allows, are on each date
+    off: tuple[Off, ...] = ()  # the times outside the hours of resources, up to the horizon
+    horizon: int | None = None  # up to which these are known: what needs such a resource has to end by then
 
     @property
     def end(self) -> int:
@@ -103,8 +113,38 @@ class Project:
 
     def away(self, resource: int, time: int) -> int:
         """How many units of a resource are away at a time."""
+        if any(one.resource == resource and one.begins <= time < one.ends for one in self.off):
+            return self.capacities[resource]
+        return self.absent(resource, time)
+
+    def absent(self, resource: int, time: int) -> int:
+        """The same by absences alone."""
         return sum(one.units for one in self.absences if one.resource == resource and one.begins <= time
                    and (one.ends is None or time < one.ends))
+
+    def all_absences(self) -> tuple[Absence, ...]:
+        """The absences, and behind them what else is away outside the hours of resources."""
+        if not self.off:
+            return self.absences
+        marks: dict[int, list[int]] = {}
+        for one in self.absences:
+            marks.setdefault(one.resource, []).extend(time for time in (one.begins, one.ends) if time is not None)
+        return (*self.absences, *(part for off in self.off for part in self.left_of(off, marks.get(off.resource, []))))
+
+    def left_of(self, off: Off, marks: Sequence[int]) -> list[Absence]:
+        """What is away for a time outside of hours, besides absences, which change at these marks."""
+        times = [off.begins, *sorted({time for time in marks if off.begins < time < off.ends}), off.ends]
+        parts = [Absence(off.resource, begins, ends, self.capacities[off.resource] - self.absent(off.resource, begins))
+                 for begins, ends in zip(times, times[1:])]
+        return [one for one in parts if one.units]
+
+    def beyond(self, starts: Sequence[int]) -> list[int]:
+        """What needs a resource with hours, and ends when these are not known any more."""
+        if self.horizon is None:
+            return []
+        crews = {one.resource for one in self.off}
+        return [i for i in range(1, self.end) if starts[i] + self.durations[i] > self.horizon
+                and self.durations[i] and any(self.demands[i][k] for k in crews)]
 
 
 def in_order(project: Project, old: Mapping[int, int]) -> Project:
@@ -149,7 +189,8 @@ def without(project: Project, gone: Collection[Part]) -> Project:
     absences = tuple(one._replace(resource=kept.index(one.resource)) for place, one in enumerate(project.absences)
                      if one.resource in kept and Part(Kind.ABSENCE, place) not in gone)
     capacities = tuple(project.capacities[k] for k in kept)
-    return replace(with_arcs(project, arcs), demands=demands, capacities=capacities, absences=absences)
+    off = tuple(one._replace(resource=kept.index(one.resource)) for one in project.off if one.resource in kept)
+    return replace(with_arcs(project, arcs), demands=demands, capacities=capacities, absences=absences, off=off)
 
 
 def with_lag(project: Project, place: int, lag: int) -> Project:

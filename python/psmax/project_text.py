@@ -86,7 +86,8 @@ def parse(data: bytes) -> Project:
 class ProjectText:
     def __init__(self, project: Project) -> None:
         self.project = project
-        self.end = project.end + len(project.absences)  # of the text: absences stand before it
+        self.hidden = project.all_absences()
+        self.end = project.end + len(self.hidden)  # of the text: absences stand before it
 
     @cached_property
     def horizon(self) -> int:
@@ -95,19 +96,19 @@ class ProjectText:
         longest = [*self.project.durations]
         for tail, _, lag in self.project.arcs:
             longest[tail] = max(longest[tail], lag)
-        longest[0] = max([longest[0], *(one.begins for one in self.project.absences)])
-        return sum(longest) + sum(one.ends - one.begins for one in self.project.absences if one.ends is not None)
+        longest[0] = max([longest[0], *(one.begins for one in self.hidden)])
+        return sum(longest) + sum(one.ends - one.begins for one in self.hidden if one.ends is not None)
 
     @cached_property
     def absences(self) -> list[tuple[int, int]]:
         """When each begins and ends. What is away for ever is away up to the horizon, and nobody needs it behind
         that."""
         return [(one.begins, one.ends if one.ends is not None else max(one.begins, self.horizon))
-                for one in self.project.absences]
+                for one in self.hidden]
 
     @cached_property
     def offset(self) -> int:
-        if self.project.goal is Goal.MAKESPAN and not self.project.absences:
+        if self.project.goal is Goal.MAKESPAN and not self.hidden:
             return 0
         least = least_starts(self.project)
         if self.project.goal is Goal.LATENESS:
@@ -119,7 +120,7 @@ class ProjectText:
     def arcs(self) -> list[Arc]:
         """The arcs of the text, with those that keep absences where they are."""
         project, found = self.project, []
-        if not project.absences and not self.offset:
+        if not self.hidden and not self.offset:
             return [*project.arcs]
         for tail, head, lag in project.arcs:
             by = (self.offset if head == project.end else 0) - (self.offset if tail == project.end else 0)
@@ -128,7 +129,7 @@ class ProjectText:
             found += [Arc(arc.tail, self.end, arc.lag + self.offset) for arc in project.goal_arcs()]
         for place, (begins, _) in enumerate(self.absences):
             found += [Arc(0, project.end + place, begins), Arc(project.end + place, 0, -begins)]
-        for resource in {one.resource for one in project.absences if one.ends is None}:
+        for resource in {one.resource for one in self.hidden if one.ends is None}:
             found += [Arc(i, 0, project.durations[i] - self.horizon) for i in range(1, project.end)
                       if project.demands[i][resource] and project.durations[i]]
         return found
@@ -145,7 +146,7 @@ class ProjectText:
         project, resources = self.project, len(self.project.capacities)
         rows = [[f"{self.end - 1}", f"{resources}", "0", "0"]]
         arcs = self.arcs()
-        if project.absences or self.offset:
+        if self.hidden or self.offset:
             self.must_fit(arcs)
         leaving: list[list[Arc]] = [[] for _ in range(self.end + 1)]
         for arc in arcs:
@@ -163,7 +164,7 @@ class ProjectText:
         """The duration and the demands of each activity of the text."""
         project, resources = self.project, range(len(self.project.capacities))
         hidden = [(ends - begins, tuple(one.units if k == one.resource else 0 for k in resources))
-                  for one, (begins, ends) in zip(project.absences, self.absences)]
+                  for one, (begins, ends) in zip(self.hidden, self.absences)]
         shown = [*zip(project.durations, project.demands)]
         return [*shown[:-1], *hidden, shown[-1]]
 

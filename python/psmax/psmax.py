@@ -22,8 +22,8 @@ class Checked:
 
 
 class Violation(NamedTuple):
-    """A start of activity 0 that isn't 0; a lag that isn't kept, as its arc; one in calendar days, by its place; or an
-    overload: a time, a resource, a use."""
+    """A start of activity 0 that isn't 0; a lag that isn't kept, as its arc; one in calendar days, by its place; an overload: a
+    time, a resource, a use; or an activity that ends when the hours of a resource are not known any more."""
 
     kind: str
     numbers: tuple[int, ...]
@@ -71,6 +71,10 @@ class Psmax(Program):
     def check(self, project: Project, starts: tuple[int, ...]) -> Checked:
         """What psmax says of the starts. Whatever is minimized, a schedule is feasible by its lags and resources. Lags in
         calendar days are kept or not by their dates."""
+        if project.horizon is not None:
+            known = self.check(replace(project, horizon=None), starts)
+            late = [Violation("horizon", (activity,)) for activity in project.beyond(starts)]
+            return Checked(None, (*known.violations, *late)) if late else known
         if project.dated:
             known = self.check(replace(project, dated=()), starts)
             late = [Violation("dated", (place,)) for place, one in enumerate(project.dated) if one.slack(starts) < 0]
