@@ -153,7 +153,7 @@ class Lengths(InFolder):
         half = self.file("p.csv", "activity,days\na,1.5\n")
         self.refused(plan("solve", half, "--period", "days"), 2, "'1.5 days' is not a whole number of periods, which are days")
         for rows, told in (("a,2 moons\n", "'2 moons' is not a number, or one with min, h, d, w or cd"),
-                           ("a,2 cd\n", "calendar days are for lags alone"), ("a,-1 d\n", "-1 d is below 0")):
+                           ("a,2 cd\n", "depends on its date"), ("a,-1 d\n", "-1 d is below 0")):
             with self.subTest(rows):
                 self.refused(plan("solve", self.file("p.csv", f"activity,days\n{rows}")), 2, "row 2, column B (days)", told)
         mixed = self.file("p.csv", "activity,duration\na,2 d\nb,3\n")

@@ -26,6 +26,7 @@ WORDS = {word: name for name, words in (  # what a setting is called, and how ro
     ("absences", "absences, abwesenheiten"),
     ("status", "status, status date, data date, statusdatum, stichtag"),
     ("minimize", "minimize, minimise, minimiere, minimieren"),
+    ("horizon", "horizon, horizont, planungshorizont"),
 ) for word in words.split(", ")}
 NOTE = "#"  # before what is said to people alone
 PARTED = re.compile(r"([^\W\d_][^:=,;\t]*)[:=,;\t](.*)", re.S)  # a name and its value in one cell
@@ -134,7 +135,7 @@ def must_be_time(text: str, order: str | None) -> None:
 
 
 CHECKS: Mapping[str, Callable[[str, str | None], object]] = {
-    "from": read_moment, "status": must_be_time,
+    "from": read_moment, "status": must_be_time, "horizon": must_be_time,
     "workdays": lambda text, *_: read_workdays(text), "shift": lambda text, *_: read_shift(text),
     "period": lambda text, *_: must_be_period(text), "zone": lambda text, *_: zone(text),
     "dates": lambda text, *_: checked(Settings(dates=text)), "minimize": lambda text, *_: checked(Settings(minimize=text))}

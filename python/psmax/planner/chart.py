@@ -106,14 +106,17 @@ class Chart:
         return f"{bar.label}: {bar.first} to {bar.last}{kind}{spare}{before}"
 
     def load(self, load: Load) -> list[Element]:
-        """The use as a stepped area under a dashed line, which is what there is; hatched from that down what is away."""
+        """The use as a stepped area under a dashed line, which is what there is; hatched from that down what is away, and
+        shaded the times outside its hours."""
         if not self.shown.is_plan:
             return []
         most = max([load.capacity, 1, *(one.units for one in load.stretches)])
         unit, floor = (LOAD - 14) / most, LOAD - 4
         top = floor - unit * load.capacity
-        found = [tip(f"{load.name}: {one.units} away from {self.shown.span(one.begins, one.ends)}",
-                     self.box(one.begins, one.ends, top, unit * one.units, "away")) for one in load.away]
+        found = [tip(f"{load.name}: no work from {self.shown.span(one.begins, one.ends)}",
+                     self.box(one.begins, one.ends, 1, LOAD - 5, "off")) for one in load.off]
+        found += [tip(f"{load.name}: {one.units} away from {self.shown.span(one.begins, one.ends)}",
+                      self.box(one.begins, one.ends, top, unit * one.units, "away")) for one in load.away]
         for one in load.stretches:
             kept = min(one.units, load.capacity)
             boxes = [self.box(one.begins, one.ends, floor - unit * kept, unit * kept, "use")]

@@ -1,5 +1,6 @@
 """The columns of a table of activities: docs/PLANNER.md says what each has."""
 import re
+from contextlib import suppress
 from dataclasses import dataclass, field
 from enum import Enum
 from functools import lru_cache
@@ -7,11 +8,12 @@ from functools import lru_cache
 from ..errors import BadInput
 from ..letters import short
 from ..project import MOST_RESOURCES, MOST_UNITS
-from .csv_text import Sheet
+from .crew_hours import Hours, read_hours
+from .csv_text import Sheet, cell
 from .faults import Faults, fault_at
 from .quantities import WORDS, Unit
 
-RESOURCE = re.compile(r"(.*\S)\s*\(\s*(\d+)\s*\)")
+RESOURCE = re.compile(r"(.*\S)\s*\(\s*(\d+)\s*(?:[,;]\s*([^()]*[^()\s])\s*)?\)")
 
 
 class Column(Enum):
@@ -37,6 +39,7 @@ class Column(Enum):
     WBS = "wbs"
     LEVEL = "outline level"
     SUMMARY = "summary"
+    PAUSES = "may pause"
     NOTE = "notes"
     COMPUTED = "what plan computes"
     RESOURCE = "resource"
@@ -60,6 +63,7 @@ HEADS = {head: column for column, heads in (  # in English, then in German
     (Column.WBS, "wbs, outline number, psp-code, gliederungsnummer"),
     (Column.LEVEL, "outline level, level, gliederungsebene"),
     (Column.SUMMARY, "summary, sammelvorgang, gruppe"),
+    (Column.PAUSES, "may pause, pauses, darf pausieren, unterbrechbar"),
     (Column.NOTE, "note, notes, remark, remarks, comment, comments, notiz, notizen, bemerkung, bemerkungen, kommentar"),
     (Column.COMPUTED, "start, end, finish, first day, last day, anfang, ende"),
 ) for head in heads.split(", ")}
@@ -74,6 +78,15 @@ class Columns:
     heads: list[str]
     places: dict[Column, int] = field(default_factory=dict)
     resources: list[int] = field(default_factory=list)
+
+    def hours(self) -> dict[int, Hours]:
+        """Those of the resources that have some, by their numbers. What is wrong with others was told where heads are read."""
+        found: dict[int, Hours] = {}
+        for number, place in enumerate(self.resources):
+            with suppress(ValueError):
+                hours = hours_of(self.heads[place])
+                found |= {} if hours is None else {number: hours}
+        return found
 
     def unit(self) -> Unit:
         """What a bare duration counts."""
@@ -104,7 +117,8 @@ def read_heads(file: str, sheet: Sheet, faults: Faults) -> Columns:
         with faults.kept():
             if found is None and head:
                 raise fault_at(file, sheet.head_row, place, head, "not a column that plan knows; a resource has its capacity, "
-                               "as in 'crew (5)', and a column of your own words is called notes")
+                               "as in 'crew (5)', and a column of your own words is called notes"
+                               + unquoted(sheet.heads, place))
             if found is Column.RESOURCE:
                 why = why_no_resource(columns, head)
                 columns.resources.append(place)
@@ -121,8 +135,18 @@ def read_heads(file: str, sheet: Sheet, faults: Faults) -> Columns:
     return columns
 
 
+def unquoted(heads: list[str], place: int) -> str:
+    """What else is said of a head that may be the first half of one with hours."""
+    is_half = re.fullmatch(r".*\(\s*\d+", heads[place]) and cell(heads, place + 1).endswith(")")
+    return "; a name with a comma in it stands in quotes" if is_half else ""
+
+
 def why_no_resource(columns: Columns, head: str) -> str:
     name, units = resource(head)
+    try:
+        hours_of(head)
+    except ValueError as fault:
+        return f"{fault}"
     if len(columns.resources) == MOST_RESOURCES:
         return f"a project has at most {MOST_RESOURCES} resources"
     if len(units) > 9 or int(units) > MOST_UNITS:
@@ -137,3 +161,9 @@ def resource(head: str) -> tuple[str, str]:
     found = RESOURCE.fullmatch(head)
     assert found is not None
     return found[1], found[2]
+
+
+def hours_of(head: str) -> Hours | None:
+    """The hours of its own that a resource has, if it has some; ValueError says what is wrong with them."""
+    found = RESOURCE.fullmatch(head)
+    return read_hours(found[3]) if found is not None and found[3] else None

@@ -4,7 +4,7 @@ from dataclasses import dataclass, field
 
 from ..calendars import Calendar
 from .project_file import ProjectFile
-from .window import Stretch, Window, away, stretches
+from .window import Stretch, Window, away, off, stretches
 
 PICTURE = b"<svg "  # how one begins
 
@@ -38,6 +38,7 @@ class Load:
     capacity: int
     stretches: tuple[Stretch, ...]
     away: tuple[Stretch, ...] = ()
+    off: tuple[Stretch, ...] = ()  # outside of its hours
 
 
 @dataclass(frozen=True)
@@ -90,7 +91,8 @@ def make(opened: ProjectFile, starts: tuple[int, ...], title: str, notes: tuple[
                         *opened.times(i, starts[i]), known.windows.get(i), i in known.critical, project.due.get(i),
                         i in known.started, known.was.get(i), opened.names.label(i), i in known.open))
     loads = tuple(Load(opened.names.resource(k), units, joined(stretches(project, starts, k)),
-                       cut(away(project, k, ends), ends)) for k, units in enumerate(project.capacities))
+                       cut(away(project, k, ends), ends), cut(off(project, k), ends))
+                  for k, units in enumerate(project.capacities))
     return Drawing(title, notes, begins, ends, tuple(bars), loads, is_plan, opened.calendar, opened.length, opened.after)
 
 

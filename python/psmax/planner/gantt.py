@@ -46,6 +46,7 @@ def keys(shown: Drawing) -> list[str]:
     return [key for key, is_there in (
         ("9 stands for the whole of a resource of more than 9 units", any(load.capacity > 9 for load in shown.loads)),
         ("/ units are away, and none is in use", any(load.away for load in shown.loads)),
+        ("a blank is outside the hours of a resource", any(load.off for load in shown.loads)),
         ("+ the last period before the due date is over", any(bar.due is not None for bar in shown.bars)),
         ("- where it may run too, while the others stay as they are", any(bar.window for bar in shown.bars)),
         ("* critical: any later, and no schedule is as short", any(bar.is_critical for bar in shown.bars)),
@@ -107,8 +108,19 @@ def load_cells(load: Load, first: int, scale: int, columns: int) -> str:
                 both = Stretch(max(stretch.begins, absent.begins), min(stretch.ends, absent.ends), 0)
                 for column in covered(both, first, scale):
                     over[column] = True
-    return "".join("!" if is_over else "/" if absent and not units else use_sign(units, load.capacity)
-                   for units, absent, is_over in zip(most, gone, over))
+    closed = closed_in(load, first, scale, columns)
+    return "".join("!" if is_over else " " if off == scale and not units else "/" if absent and not units
+                   else use_sign(units, load.capacity) for units, absent, is_over, off in zip(most, gone, over, closed))
+
+
+def closed_in(load: Load, first: int, scale: int, columns: int) -> list[int]:
+    """How many periods of each column are outside its hours."""
+    closed = [0] * columns
+    for stretch in load.off:
+        for column in covered(stretch, first, scale):
+            begins = first + column * scale
+            closed[column] += min(begins + scale, stretch.ends) - max(begins, stretch.begins)
+    return closed
 
 
 def covered(stretch: Stretch, first: int, scale: int) -> range:

@@ -40,9 +40,14 @@ class Activities:
     durations: Sequence[int]  # of the activities from 1 on, at 0 of the first
     planned: Sequence[int]  # the same by the column of durations, whatever has started
     mornings: dict[int, list[int]] = field(default_factory=dict)  # times at which dates say that an activity may start
+    lasts: dict[int, int] = field(default_factory=dict)  # the last part of each first one, of what may pause
 
     def length(self, number: int) -> int:
         return self.durations[number - 1]
+
+    def side(self, number: int, is_end: bool) -> "Side":
+        """The start or the end of an activity, or of all of its parts."""
+        return Side([self.lasts.get(number, number) if is_end else number], is_end)
 
 
 @dataclass(frozen=True)
@@ -147,7 +152,7 @@ class Lags:
     def read_link(self, row: Row, own: Side, text: str) -> None:
         """One predecessor, such as 12, 14SS, 9FF-1 d, 12FS+50% or 12FS<3 d."""
         column, ids, groups = Column.PREDECESSORS, self.activities.ids, self.activities.group_ids
-        plain = ids.get(text.casefold())
+        plain = self.activities.lasts.get(ids.get(text.casefold(), 0), ids.get(text.casefold()))
         if plain is not None and not own.is_group and plain != own.numbers[0]:
             self.arcs.append(Arc(plain, own.numbers[0], self.activities.length(plain)))
             return
@@ -155,10 +160,10 @@ class Lags:
         number, group = ids.get(called.casefold()), groups.get(called.casefold())
         if number is None and group is None:
             raise row.fault(column, no_predecessor(row, text, called))
-        before = Side([number] if number is not None else group.activities if group is not None else [], kind[0] == "F",
-                      number is None)
-        own = Side(own.numbers, kind[1] == "F", own.is_group)
+        before = self.activities.side(number, kind[0] == "F") if number is not None else \
+            Side(group.activities if group is not None else [], kind[0] == "F", True)
         must_be_others(row, column, before, own)
+        own = Side(own.numbers, kind[1] == "F", True) if own.is_group else self.activities.side(own.numbers[0], kind[1] == "F")
         low, high = self.told(row, text, before, least), None if most is None else self.told(row, text, before, most)
         if kind[1] == "F" and Unit.CALENDAR_DAYS in (low.unit, high and high.unit):
             raise row.fault(column, f"'{short(text)}': calendar days are for lags to a start, FS or SS")
@@ -173,8 +178,9 @@ class Lags:
         share = SHARE.fullmatch(told)
         if share is None:
             return row.length(Column.PREDECESSORS, told)
-        if before.is_group:
-            raise row.fault(Column.PREDECESSORS, f"'{short(text)}': a group has no duration of which a lag could be a share")
+        if before.is_group or before.numbers[0] in {*self.activities.lasts, *self.activities.lasts.values()}:
+            which = "a group" if before.is_group else "what may pause"
+            raise row.fault(Column.PREDECESSORS, f"'{short(text)}': {which} has no duration of which a lag could be a share")
         duration = self.activities.planned[before.numbers[0] - 1]
         periods = duration * Fraction(share[1].replace(",", ".")) / 100
         if periods.denominator != 1:
@@ -207,7 +213,7 @@ def names_in(row: Row) -> list[str]:
 def find(activities: Activities, row: Row, text: str) -> tuple[Side, bool]:
     """What a text names, and whether it says `with`."""
     if text in activities.names:
-        return Side([activities.names[text]], True), False
+        return activities.side(activities.names[text], True), False
     lower = text.lower()
     if lower == START:
         return Side([0]), False
@@ -220,8 +226,9 @@ def find(activities: Activities, row: Row, text: str) -> tuple[Side, bool]:
         raise row.fault(Column.AFTER, no_activity(activities, name))
     if begin == WITH and (row.cell(Column.AT_LEAST) or row.cell(Column.AT_MOST)):
         raise row.fault(Column.AFTER, "what starts with another has no other lags; they take a row of their own below")
-    numbers = [number] if number is not None else group.activities if group is not None else []
-    return Side(numbers, not begin, number is None), begin == WITH
+    if number is not None:
+        return activities.side(number, not begin), begin == WITH
+    return Side(group.activities if group is not None else [], not begin, True), begin == WITH
 
 
 def must_be_others(row: Row, column: Column, before: Side, own: Side) -> None:

@@ -147,12 +147,12 @@ def add_settings(one: argparse.ArgumentParser) -> None:
     project.add_argument("--holidays", metavar="DAYS", help="days without work: the public holidays of a country "
                          "or a part of it, such as DE or DE-BY, or a file with a day or some a line")
     project.add_argument("--shift", metavar="HOURS", help="the hours of work of a day, such as 07:00-12:00,13:00-16:00")
-    project.add_argument("--zone", metavar="ZONE", help="the time zone of periods around the clock and of calendars, such as "
-                         "Europe/Berlin")
+    project.add_argument("--zone", metavar="ZONE", help="the time zone of periods and of calendars, such as Europe/Berlin")
     project.add_argument("--dates", choices=ORDERS, help="what stands first in a date such as 3/2/2026: the day or the month")
     project.add_argument("--absences", metavar="FILE", help="a table of what is away when: resource, from, to, units")
     project.add_argument("--status", metavar="DATE", help="the day at which the table says how far the project has come")
     project.add_argument("--minimize", choices=GOALS, help="what is minimized (default: makespan)")
+    project.add_argument("--horizon", metavar="DATE", help="up to when the hours of resources are known")
     project.add_argument("--title", metavar="TEXT", help="what the project is called (default: as its file and folder)")
 
 

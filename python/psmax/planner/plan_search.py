@@ -79,6 +79,8 @@ class PlanSearch(threading.Thread):
             known.offer(starts, called)
         psprove = Psprove(self.clock, self.opened.path)
         search(self.beginning.project, psprove, known, self.limits.jobs, self.beginning.repairs)
+        if known.value is None and not known.none and self.opened.project.horizon is not None:
+            self.learn(trouble=(Words(self.opened).nothing_within(known.bound),))
         if known.record:
             path = os.path.join(self.folder, f"{self.number}.record")
             for place in (path, self.limits.record):

@@ -83,8 +83,10 @@ class ProjectFile:
         return self.table is None or self.table.scale.is_own()
 
     def changeable(self) -> int:
-        """How many of the project's arcs are lags that one could change; those behind keep what has started."""
-        return len(self.project.arcs) - len(self.progress.arcs(self.project.end - 1))
+        """How many of the project's arcs are lags that one could change; those behind keep what has started, and tie the parts
+        of what may pause."""
+        pauses = self.table.pauses if self.table is not None else ()
+        return len(self.project.arcs) - len(self.progress.arcs(self.project.end - 1)) - len(pauses)
 
     def time(self, text: str, name: str) -> int:
         """A date or a number, as a word of the command says it."""

@@ -107,16 +107,19 @@ def many(count: int, what: str) -> str:
 
 def said_of_text(spelled: ProjectText) -> list[str]:
     """What its own numbers mean, where they aren't those of the table."""
-    hidden, goal = len(spelled.project.absences), spelled.project.goal.value
-    told = [f"Its last {many(hidden, 'activity') if hidden == 1 else f'{hidden} activities'} before the end are absences."]
+    hidden, goal = len(spelled.hidden), spelled.project.goal.value
+    kind = "absences and times outside the hours of resources" if spelled.project.off else "absences"
+    told = [f"Its last {many(hidden, 'activity') if hidden == 1 else f'{hidden} activities'} before the end are {kind}."]
     return (told if hidden else []) + ([f"Its end starts {spelled.offset} after the {goal}."] if spelled.offset else [])
 
 
 def said_of_dates(opened: ProjectFile) -> list[str]:
     """What the numbers leave out."""
-    words = Words(opened)
-    return [f"The text has less, since it knows no dates: {words.lag(arc)}. `plan solve` of the table keeps that."
+    words, horizon = Words(opened), opened.project.horizon
+    known = [] if horizon is None else [f"The text has the hours of resources up to {words.by(horizon)}, and none behind that."]
+    less = [f"The text has less, since it knows no dates: {words.lag(arc)}. `plan solve` of the table keeps that."
             for arc in words.dated]
+    return known + less
 
 
 def must_be_ours(target: str, named: str, source: str, there: bytes | None, is_named: bool) -> None:

@@ -8,6 +8,7 @@ from dataclasses import fields
 from ..calendars import DAY, Calendar, Days, Shifts, at_midnight
 from ..date_style import weekday
 from ..dates import DAYS as NAMES_OF_DAYS
+from ..dates import MIDNIGHT
 from ..project import Arc, least_starts
 from .above import Above
 from .project_file import ProjectFile
@@ -17,6 +18,7 @@ from .wording import Words
 
 NOT_BEFORE = "'not before'"
 YEAR = 365  # days
+ALL_DAY = "00:00-24:00"
 WEEKS = 3  # that `plan check` shows
 GERMAN = ("mo", "di", "mi", "do", "fr", "sa", "so")
 
@@ -28,7 +30,7 @@ def read_back_line(file: ProjectFile) -> str:
     told = [f"{many(project.end - 1, 'activity')}{groups}"]
     if project.capacities:
         told.append(f"{many(len(project.capacities), 'resource')} of {many(sum(project.capacities), 'unit')}")
-    told.append(calendar(file))
+    told += [calendar(file), *hours(file)]
     told += [many(len(project.absences), "absence")] if project.absences else []
     return f"{', '.join([*told, *dates(file)])}; {', '.join(figures(file))}"
 
@@ -57,6 +59,7 @@ def figures(file: ProjectFile) -> Iterator[str]:
     yield many(len(least), "lag") + (f" of {words.many(waits)}" if waits else "")
     if most:
         yield f"{many(len(most), 'maximum lag')} of {words.many(sum(beyond(file, arc.head, -arc.lag) for arc in most))}"
+    least += file.table.pauses if file.table is not None else ()
     inner, tails, heads = {*range(1, project.end)}, {arc.tail for arc in least}, {arc.head for arc in least}
     yield f"{len(inner - heads)} first and {len(inner - tails)} last activities"
     soonest = least_starts(project)
@@ -95,9 +98,21 @@ def calendar(file: ProjectFile) -> str:
     return text + (f", {many(len(found.holidays_of()), 'holiday')}" if found.holidays_of() else "")
 
 
-def workdays(file: ProjectFile, days: frozenset[int]) -> str:
+def hours(file: ProjectFile) -> Iterator[str]:
+    """Those of each resource that has its own, and up to when they are known."""
+    crews = file.table.crews if file.table is not None else None
+    if crews is None or file.project.horizon is None:
+        return
+    for number, one in crews.hours.items():
+        spans = ",".join(f"{clock(begins)}-{clock(ends % MIDNIGHT or MIDNIGHT)}" for begins, ends in one.spans)
+        days = "" if one.days is None else workdays(file, one.days, one.text)
+        yield " ".join([file.names.resource(number), *([days] if days else []), *([] if spans == ALL_DAY else [spans])])
+    yield f"hours up to {Words(file).brief(file.project.horizon, True)}"
+
+
+def workdays(file: ProjectFile, days: frozenset[int], text: str | None = None) -> str:
     """Days of the week, in the language in which the table names them."""
-    told = (file.settings.workdays or "").lower().replace("\u2013", "-").replace("-", ",").split(",")
+    told = (text or file.settings.workdays or "").lower().replace("\u2013", "-").replace("-", ",").split(",")
     is_german = all(one.strip(" .") in GERMAN or one.strip(" .").endswith(("tag", "woch", "abend")) for one in told)
     names = [one.capitalize() for one in GERMAN] if is_german else [one[0].capitalize() for one in NAMES_OF_DAYS]
     if len(days) == 7:

@@ -83,7 +83,7 @@ class Row:
         """The same in periods."""
         scale = self.terms.scale
         if length.unit is Unit.CALENDAR_DAYS:
-            raise self.fault(column, "calendar days are for lags alone")
+            raise self.fault(column, "calendar days are for durations and lags alone")
         if not length.value:
             return 0
         if scale.is_vague(length):
@@ -103,7 +103,19 @@ class Row:
         length = self.length(column, text)
         if length.value < 0:
             raise self.fault(column, f"{short(text)} is below 0")
-        return self.periods(column, length)
+        return self.elapsed(column, length) if length.unit is Unit.CALENDAR_DAYS else self.periods(column, length)
+
+    def elapsed(self, column: Column, length: Length) -> int:
+        """Calendar days that something takes, which are as many periods on each date."""
+        day = self.terms.calendar.periods_a_day() if self.terms.calendar is not None else None
+        if day is None:
+            raise self.fault(column, f"how long '{short(self.cell(column))}' is depends on its date; with --from, and periods "
+                             "around the clock on every day, as with --shift 00:00-24:00, it does not, and hours of resources "
+                             "are told as 'crew (4, 06:00-18:00)'")
+        periods = length.value * day
+        if periods.denominator != 1 or periods > MOST_UNITS:
+            raise self.fault(column, f"{short(self.cell(column))} are no whole number of periods up to {MOST_UNITS:,}")
+        return int(periods)
 
     def time_in(self, column: int | Column, text: str) -> int | Moment:
         """A time in periods by a number, which counts what a bare duration does; or a date, which needs a calendar."""

@@ -33,6 +33,7 @@ class Settings:
     absences: str | None = None
     status: str | None = None
     minimize: str | None = None
+    horizon: str | None = None
     title: str | None = None
 
     def over(self, other: "Settings") -> "Settings":

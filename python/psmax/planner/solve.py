@@ -23,6 +23,7 @@ from .beginning import Start, begin_with, go_on
 from .headline import called, headline
 from .project_file import ProjectFile
 from .read_back import first_line
+from .wording import Words
 
 if TYPE_CHECKING:
     from .cubes import Places
@@ -79,6 +80,8 @@ def solve(opened: ProjectFile, start: Start, options: Options) -> int:
         if known.starts is not None:
             give(known, opened, options, kept)
         raise
+    if known.value is None and not known.none and opened.project.horizon is not None:
+        tell(clock, Words(opened).nothing_within(known.bound))
     give(known, opened, options, kept)
     return 0 if known.settled else 3
 

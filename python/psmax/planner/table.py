@@ -9,15 +9,18 @@ from ..dates import is_dated
 from ..errors import BadInput
 from ..letters import printable, short
 from ..project import MOST_ACTIVITIES, MOST_ARCS, Arc, Goal, Project
-from ..work_time import minutes_of, moment, shift, workdays
+from ..work_time import minutes_of, moment, workdays
 from .above import Above, read_above
 from .absences import read_absences
 from .columns import LAGS, Column, Columns, count_heads, is_head, read_heads, resource
+from .crew_hours import Crews
+from .crews import crews_of, lengths_between, must_fit, parts_of, with_hours
 from .csv_text import Sheet, cell, read_sheet
 from .decimals import with_one_sign
 from .faults import Faults
 from .lags import START, START_OF, WITH, Activities, Lags, Side, lengths_in, shares_in
 from .names import Names
+from .pauses import Cuts
 from .progress import Progress
 from .quantities import Length, Scale, Unit, read_length, scale_of, units_of
 from .rows import Group, Row, Terms, groups, is_summary, level
@@ -41,6 +44,8 @@ class Table:
     rows: tuple[int, ...]  # in which the activities stand, as a spreadsheet numbers them
     notes: tuple[str, ...]  # what is to be said of it before anything is done with it
     above: Above
+    crews: Crews | None = None  # the resources with hours of their own
+    pauses: tuple[Arc, ...] = ()  # between the parts of rows that may pause
 
 
 def read_table(file: str, text: str, words: Settings, folder: str, page: Settings = Settings()) -> Table:
@@ -75,6 +80,7 @@ def terms_of(file: str, sheet: Sheet, columns: Columns, settings: Settings) -> T
     if own is Unit.PERIODS and len(units) == 1:
         [own] = units  # a column `duration` with one unit in all of its cells
     found = lengths([text for row in rows for text in lengths_in(row)], own) + shares_in(rows, own)
+    found += lengths_between(columns, settings)
     scale = scale_of(found, own, head, None if settings.shift is None else parts_of(settings), week)
     is_guess = settings.shift is None and (scale is None or needs_hours(units_of(found) | {own}, named))
     if scale is None or is_guess:
@@ -86,14 +92,6 @@ def terms_of(file: str, sheet: Sheet, columns: Columns, settings: Settings) -> T
     elif named is not None:
         scale = replace(scale, period=Unit.MINUTES, minutes=minutes_of(named), is_named=True)
     return replace(blank, scale=scale, calendar=calendar(replace(settings, period=None), scale.name()), is_guess=is_guess)
-
-
-def parts_of(settings: Settings) -> list[tuple[int, int]]:
-    """The hours of work of a day, in two parts where the project starts within them, so that a period begins there."""
-    first = None if settings.first is None else moment(settings.first, "from", settings.dates).at
-    now = 0 if first is None else 60 * first.hour + first.minute
-    return [part for begins, ends in shift(settings.shift, 1)
-            for part in ([(begins, now), (now, ends)] if begins < now < ends else [(begins, ends)])]
 
 
 def needs_hours(units: set[Unit], named: str | None) -> bool:
@@ -138,13 +136,17 @@ class Reading:
             row.must_be_below_heads()
 
     def table(self, above: Above) -> Table:
+        terms, progress = self.terms, Progress(self.time(self.settings.status, "status"))
+        crews = crews_of(terms, self.settings, progress.now or 0)
+        cuts = self.cut(crews)
         self.part()
         for row in self.rows:
             self.add_activity(row)
-        status, terms, self.planned = self.settings.status, self.terms, [*self.durations]
-        progress = Progress(None if status is None else time_of(status, "status", self.settings, terms.calendar, terms.scale))
+        self.planned = [*self.durations]
         progress.read(self.rows, self.durations, self.faults)
-        lags, due = self.lags(), self.due()
+        if crews is not None:
+            must_fit(self.rows, self.durations, self.demands, progress.started, crews, self.faults)
+        lags, due = self.lags(cuts), self.due()
         self.faults.tell()
         for number in progress.waiting(self.durations):
             lags.activities.mornings.setdefault(number, []).append(progress.now or 0)
@@ -153,11 +155,37 @@ class Reading:
         project, names = self.project((*arcs, *progress.arcs(len(self.rows))), due, called)
         names.ids = {number: row.cell(Column.ID) for number, row in enumerate(self.rows, 1) if row.cell(Column.ID)}
         project = replace(project, dated=tuple(one for one in lags.dated if one.arc in arcs))
+        project, pauses = self.with_crews(project, crews, cuts)
         notes = [*self.said_of_period(), *self.said_of_start(), *self.terms.told]
         notes += [said_of_history(arc, called) for arc in broken]
         mornings = lags.activities.mornings
         return Table(project, names, self.settings, terms.calendar, (*self.parts.values(),), mornings, progress, terms.scale,
-                     tuple(row.number for row in self.rows), tuple(notes), above)
+                     tuple(row.number for row in self.rows), tuple(notes), above, crews, pauses)
+
+    def with_crews(self, project: Project, crews: Crews | None, cuts: Cuts | None) -> tuple[Project, tuple[Arc, ...]]:
+        """With the times outside hours, and with what ties the parts of rows that may pause, which stands behind all other
+        arcs."""
+        if crews is None or cuts is None:
+            return project, ()
+        project = with_hours(project, crews, self.time(self.settings.horizon, "horizon"))
+        arcs, dated = cuts.lags(project, self.names)
+        return replace(project, arcs=(*project.arcs, *arcs), dated=(*project.dated, *dated)), tuple(arcs)
+
+    def time(self, text: str | None, name: str) -> int | None:
+        """Of a setting, where it is said."""
+        return None if text is None else time_of(text, name, self.settings, self.terms.calendar, self.terms.scale)
+
+    def cut(self, crews: Crews | None) -> Cuts | None:
+        """Puts the parts of what may pause in place of its rows."""
+        if crews is None:
+            return None
+        cuts, places, whole = Cuts(crews), list[int](), self.named
+        self.named = []
+        for row in whole:
+            places.append(len(self.named))
+            self.named += cuts.rows(row, self.faults)
+        self.more = [(row, places[place] if place >= 0 else place) for row, place in self.more]
+        return cuts
 
     def part(self) -> None:
         """What is an activity, and what a group."""
@@ -195,10 +223,13 @@ class Reading:
             if why_no_name(name):
                 raise row.fault(Column.NAME, f"'{short(name)}' can't be the name of an activity: {why_no_name(name)}")
 
-    def lags(self) -> Lags:
+    def lags(self, cuts: Cuts | None) -> Lags:
         names = {row.cell(Column.NAME): self.parts[place] for place, row in reversed(self.groups.items())}
         ids = {row.cell(Column.ID).casefold(): self.parts[place] for place, row in self.groups.items() if row.cell(Column.ID)}
-        lags, number = Lags(Activities(self.names, self.ids(), names, ids, self.durations, self.planned)), 0
+        activities = Activities(self.names, self.ids(), names, ids, self.durations, self.planned)
+        if cuts is not None:
+            cuts.name(activities)
+        lags, number = Lags(activities), 0
         for place, row in enumerate(self.named):
             number += place not in self.groups
             for one in [row, *(more for more, above in self.more if above == place)]:
@@ -247,6 +278,9 @@ class Reading:
 
     def must_be_group(self, row: Row) -> None:
         """A group has the dates and demands that its activities have, and none of its own."""
+        with self.faults.kept():
+            if row.is_said(Column.PAUSES):
+                raise row.fault(Column.PAUSES, "a group does not pause; its activities may")
         places = [row.terms.columns.places.get(column) for column in (Column.NOT_BEFORE, Column.END_BY, Column.DUE)]
         for column in [*(place for place in places if place is not None), *row.terms.columns.resources]:
             text = cell(row.cells, column)

@@ -45,8 +45,10 @@ class Verdict:
             return f"{self.path} proves nothing of {self.which}: {STEP.sub(STEP_IN_WORDS, self.told)}"
         if self.bound is None:
             return f"{self.path} proves that there is no schedule of {self.which}."
-        is_late = self.record.spelled.project.goal is Goal.LATENESS
-        ends = f", and has one that {'late' if is_late else 'long'}" if "optimal" in self.told else ""
+        project = self.record.spelled.project
+        is_late = project.goal is Goal.LATENESS
+        is_known = project.horizon is None or not is_late and self.bound <= project.horizon
+        ends = f", and has one that {'late' if is_late else 'long'}" if "optimal" in self.told and is_known else ""
         least = f"has a lateness below {self.bound}" if is_late else f"is shorter than {self.bound}"
         return f"{self.path} proves that no schedule of {self.which} {least}{ends}."
 

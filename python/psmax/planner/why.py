@@ -187,6 +187,8 @@ def why(opened: ProjectFile, start: Start, deadline: int | None, seconds: float,
     must_be_empty(out)
     must_be_ordinary(opened, out)
     project = begin_with(opened, start).project
+    if deadline is None and project.goal is Goal.MAKESPAN:
+        deadline = project.horizon
     clock = Clock(seconds)
     clock.listen()
     try:

@@ -41,6 +41,11 @@ def away(project: Project, resource: int, until: int) -> tuple[Stretch, ...]:
                   for one in project.absences if one.resource == resource])
 
 
+def off(project: Project, resource: int) -> tuple[Stretch, ...]:
+    """The times outside the hours of a resource."""
+    return tuple(Stretch(one.begins, one.ends, project.capacities[resource]) for one in project.off if one.resource == resource)
+
+
 def steps(uses: Iterable[tuple[int, int, int]]) -> tuple[Stretch, ...]:
     """What so many units from one time until another come to."""
     changes: dict[int, int] = {}
@@ -99,6 +104,8 @@ def used_or_away(project: Project, starts: Sequence[int], resource: int) -> tupl
     """The use of a resource, with what is away, also after the last activity."""
     until = max([*starts, *project.ends([*starts])]) + max(project.durations) + 1
     absent = [(one.begins, one.ends, one.units) for one in away(project, resource, until)]
+    closed = [(one.begins, one.ends, one.units) for one in off(project, resource)]
+    absent += [*closed, (project.horizon or 0, until, project.capacities[resource])] if closed else []
     return steps([*((one.begins, one.ends, one.units) for one in stretches(project, starts, resource)), *absent])
 
 

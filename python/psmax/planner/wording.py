@@ -5,6 +5,7 @@ from collections.abc import Collection, Sequence
 from ..dated import DatedLag
 from ..project import Absence, Arc, Goal
 from ..psmax import Violation
+from .pauses import ShiftLag
 from .project_file import ProjectFile
 
 
@@ -71,6 +72,8 @@ class Words:
         if arc not in self.now or arc in self.written:
             return ""
         table = self.opened.table
+        if table is not None and arc in table.pauses:
+            return ", since what may pause goes on with the next shift"
         row = f"row {table.rows[activity - 1]}" if table is not None else "the table"
         if activity in self.opened.progress.started:
             return f", since it has started, as {row} says"
@@ -90,6 +93,8 @@ class Words:
 
     def calendar_lag(self, one: DatedLag, verb: str) -> str:
         limit, first = "at least" if one.is_least else "at most", self.names.activity(one.first)
+        if isinstance(one, ShiftLag):
+            return f"{self.names.activity(one.last)} {verb} with the first shift after {first} ends"
         days = f"{one.days} calendar day{'' if one.days == 1 else 's'}"
         return f"{self.names.activity(one.last)} {verb} {limit} {days} after {first} {'ends' if one.base else 'starts'}"
 
@@ -164,7 +169,23 @@ class Words:
             return f"{self.calendar_lag(one, 'must start')}, and starts {on(told)}, which is {by}"
         if violation.kind == "overload":
             return self.overload(violation.numbers[0], violation.numbers[1], starts)
+        if violation.kind == "horizon":
+            return self.too_far(violation.numbers[0], starts)
         return f"the project must start at 0, and starts at {violation.numbers[0]}"
+
+    def too_far(self, activity: int, starts: Sequence[int]) -> str:
+        """What ends when the hours of its resources are not known any more."""
+        ends, known = on(self.opened.times(activity, starts[activity])[1]), self.by(self.project.horizon or 0)
+        return (f"{self.names.activity(activity)} ends {ends}, and the hours of what it needs are known up to {known}; a later "
+                "--horizon says more")
+
+    def nothing_within(self, bound: int | None) -> str:
+        """What is said where no schedule is known that ends by the horizon, by what is proved."""
+        horizon, is_makespan = self.project.horizon or 0, self.project.goal is Goal.MAKESPAN
+        is_proved = is_makespan and bound is not None and bound > horizon
+        return (f"the hours of resources are known up to {self.by(horizon)}, and no schedule "
+                + ("ends by then, which is proved; a later --horizon looks further, and `plan why` says what is in the way"
+                   if is_proved else "by then was found; a later --horizon looks further"))
 
     def broken(self, arc: Arc, starts: Sequence[int]) -> str:
         """A lag that isn't kept."""

@@ -1,0 +1,140 @@
+"""The resources of a table that have hours of their own: the period that these need, the times outside them up to a horizon,
+and which activities fit between these."""
+from collections.abc import Collection, Iterable, Sequence
+from dataclasses import replace
+from fractions import Fraction
+
+from ..dates import MIDNIGHT
+from ..errors import BadInput
+from ..letters import short
+from ..project import MOST_ACTIVITIES, Project
+from ..serial import serial_end
+from ..work_time import moment, shift
+from .columns import Column, Columns
+from .crew_hours import Crews, Stretch, is_within, off_times, windows
+from .faults import Faults, fault_at
+from .quantities import Length, Unit
+from .rows import Row, Terms
+from .settings import Settings
+
+SPANS = [56 * 2**step for step in range(7)]  # days in which all may have ended
+SPARE_DAYS, SPARE_SHARE = 7, 4  # that a horizon is behind a schedule: a week, or a quarter of it; it may break maximum lags
+
+
+def parts_of(settings: Settings, marks: Collection[int] = ()) -> list[Stretch]:
+    """The hours of work of a day, in more parts where the project starts within them or the hours of a resource change there,
+    so that a period begins there."""
+    first = None if settings.first is None else moment(settings.first, "from", settings.dates).at
+    times = sorted({*marks, 0 if first is None else 60 * first.hour + first.minute})
+    found = []
+    for begins, ends in shift(settings.shift, 1):
+        inner = [begins, *(time for time in times if begins < time < ends), ends]
+        found += [*zip(inner, inner[1:])]
+    return found
+
+
+def marks_of(columns: Columns) -> set[int]:
+    """The minutes of the day at which the hours of some resource change."""
+    return {minute for hours in columns.hours().values() for minute in hours.marks()}
+
+
+def lengths_between(columns: Columns, settings: Settings) -> list[Length]:
+    """How long it is between these, which a whole number of periods has to take."""
+    marks = marks_of(columns)
+    if not marks or settings.first is None:
+        return []
+    if settings.shift is not None:
+        found = [ends - begins for begins, ends in parts_of(settings, marks)]
+    else:
+        first = moment(settings.first, "from", settings.dates).at
+        found = [(minute - 60 * first.hour - first.minute) % MIDNIGHT or MIDNIGHT for minute in marks]
+    return [Length(Fraction(minutes), Unit.MINUTES) for minutes in found]
+
+
+def crews_of(terms: Terms, settings: Settings, now: int) -> Crews | None:
+    """None where no resource has hours of its own. What can't be kept exactly is a fault of its column."""
+    hours, faults, calendar = terms.columns.hours(), Faults(), terms.calendar
+    for number, one in hours.items():
+        place = terms.columns.resources[number]
+        with faults.kept():
+            why = ""
+            if calendar is None:
+                why = "hours need --from, the first day of the project"
+            elif not is_within(one, calendar):
+                own = settings.shift or "whole days"
+                own += " until --shift says others" if terms.is_guess else ""
+                why = f"these go beyond the hours of the project, which are {own}, {settings.workdays or 'every day'}; those " \
+                      "have to be all at which somebody works, such as --shift 00:00-24:00"
+            else:
+                why = why_inexact(Crews({number: one}, calendar, now))
+            if why:
+                raise fault_at(terms.file, terms.head_row, place, terms.columns.heads[place], why)
+    faults.tell()
+    return Crews(hours, calendar, now) if hours and calendar is not None else None
+
+
+def why_inexact(crews: Crews) -> str:
+    """What is wrong where hours begin within a period, or there are none."""
+    until = crews.after(crews.now, SPANS[0])
+    for hours in crews.hours.values():
+        try:
+            if off_times(hours, crews.calendar, crews.now, until) == [(crews.now, until)]:
+                return f"'{short(hours.text)}': no such hour is one of the project's within {SPANS[0]} days"
+        except ValueError as fault:
+            return f"{fault}"
+    return ""
+
+
+def with_hours(project: Project, crews: Crews, wanted: int | None) -> Project:
+    """The project with the times outside hours, up to the horizon that is wanted, or to one behind a schedule that keeps the
+    minimum lags."""
+    if wanted is not None:
+        return cut_off(project, crews, max(wanted, crews.now + 1))
+    for days in SPANS:
+        until = crews.after(crews.now, days)
+        found = cut_off(project, crews, until)
+        end = serial_end(found, until)
+        if end is not None:
+            spare = max(end + (end - crews.now) // SPARE_SHARE, crews.after(max(end, crews.now), SPARE_DAYS))
+            return cut_off(project, crews, spare)
+        if len(found.off) > MOST_ACTIVITIES:
+            break
+    return found
+
+
+def cut_off(project: Project, crews: Crews, horizon: int) -> Project:
+    try:
+        return replace(project, off=crews.off(horizon), horizon=horizon)
+    except ValueError as fault:
+        raise BadInput(f"hours of a resource: {fault}") from None
+
+
+def needed(demands: Sequence[int], crews: Crews) -> frozenset[int]:
+    """Which of these an activity with such demands needs."""
+    return frozenset(number for number in crews.hours if demands[number])
+
+
+def must_fit(rows: Iterable[Row], durations: Sequence[int], demands: Sequence[Sequence[int]], started: dict[int, int],
+             crews: Crews, faults: Faults) -> None:
+    """What fits into no time at which all that it needs is there is a fault, and what has started and would go on beyond it."""
+    until = crews.after(crews.now, SPANS[0])
+    off = crews.off(until)
+    for number, row in enumerate(rows, 1):
+        crew, duration = needed(demands[number - 1], crews), durations[number - 1]
+        if crew and duration:
+            found = windows(off, crew, crews.now, until)
+            longest = max((ends - begins for begins, ends in found), default=0)
+            rest = max(0, started[number] + duration - crews.now) if number in started else duration
+            with faults.kept():
+                if number in started and rest and (not found or found[0][0] > crews.now or found[0][1] < crews.now + rest):
+                    raise row.fault(Column.DURATION, f"what remains, {told(row, rest)}, goes beyond the hours of what it "
+                                    "needs; write what is done as a row that has finished, and the rest as one of its own")
+                if rest > longest and not row.is_said(Column.PAUSES):
+                    raise row.fault(Column.DURATION, f"{told(row, duration)}, and all that it needs is there for "
+                                    f"{told(row, longest)} at a time; 'yes' in a column 'may pause' cuts it into whole shifts"
+                                    if longest else "all that it needs is never there at once")
+
+
+def told(row: Row, periods: int) -> str:
+    text, name = row.terms.scale.text(periods), row.terms.scale.name()
+    return text if not text.isdigit() else f"{text} {name.removesuffix('s') if periods == 1 else name}"

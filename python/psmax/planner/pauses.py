@@ -1,0 +1,142 @@
+"""Rows that may pause: such an activity is cut into parts, each of which takes a whole shift of what it needs but the last. The
+first begins with a shift, and each other one with the next shift. That is a rule of the table, which lags say exactly."""
+from bisect import bisect_left
+from collections.abc import Sequence
+from contextlib import suppress
+from dataclasses import dataclass, field, replace
+
+from ..dated import DatedLag
+from ..errors import BadInput
+from ..project import Arc, Project
+from .columns import Column
+from .crew_hours import Crews, Stretch, windows
+from .crews import SPANS, needed
+from .faults import CellFault, Faults
+from .lags import Activities
+from .progress import TOLD
+from .quantities import Unit
+from .rows import Row
+
+OF_FIRST = (Column.AFTER, Column.AT_LEAST, Column.AT_MOST, Column.PREDECESSORS, Column.NOT_BEFORE)
+OF_LAST = (Column.END_BY, Column.DUE)
+UNEQUAL = "the shifts of what it needs are not of one length; write a row for each part"
+
+
+@dataclass(frozen=True)
+class ShiftLag(DatedLag):
+    """A part starts when the next shift after the one before it begins, whichever that is."""
+
+    shifts: tuple[int, ...] = ()  # when each begins; behind these the arc alone says how far the next one is
+
+    def limit(self, time: int) -> int:
+        place = bisect_left(self.shifts, time)
+        return self.shifts[place] if place < len(self.shifts) else time + self.most()
+
+    def within(self, soonest: int, latest: int) -> Arc:
+        """By the shifts with which the part before may begin."""
+        steps = [self.limit(start + self.base) - start for start in self.shifts if soonest <= start <= latest]
+        is_all = bool(steps) and latest <= self.shifts[-1]
+        return self.arc._replace(lag=max(self.arc.lag, -max(steps))) if is_all else self.arc
+
+    def most(self) -> int:
+        return -self.arc.lag - self.base
+
+    def worst(self) -> Arc:
+        return self.arc._replace(lag=-min(self.limit(begin + self.base) - begin for begin in self.shifts))
+
+    def quiet(self) -> int:
+        return max(super().quiet(), *self.shifts)
+
+
+@dataclass
+class Cut:
+    """The parts of a row, by their names, and the lags between them."""
+
+    row: Row
+    parts: list[str]
+    crew: frozenset[int]
+    shift: int  # how long it is
+
+
+@dataclass
+class Cuts:
+    """All of a table."""
+
+    crews: Crews
+    found: list[Cut] = field(default_factory=list)
+
+    def rows(self, row: Row, faults: Faults) -> list[Row]:
+        """The parts of a row, or it alone. What is wrong with its cells is told where they are read."""
+        with suppress(CellFault):
+            duration, places = row.duration(Column.DURATION), row.terms.columns.resources
+            crew = needed([row.units(place) for place in places], self.crews)
+            if not row.is_said(Column.PAUSES) or not crew:
+                return [row]
+            with faults.kept():
+                return self.parts(row, duration, crew)
+        return [row]
+
+    def parts(self, row: Row, duration: int, crew: frozenset[int]) -> list[Row]:
+        lengths = {ends - begins for begins, ends in self.shifts(crew)[1:-1]}
+        if duration <= max(lengths, default=0):
+            return [row]
+        if len(lengths) != 1:
+            raise row.fault(Column.PAUSES, UNEQUAL if lengths else "all that it needs is never there at once")
+        if any(row.cell(column) for column in TOLD):
+            raise row.fault(Column.PAUSES, "what has started has no parts any more; write what is done as a row that has "
+                            "finished, and the rest as one of its own")
+        if self.crews.calendar.changes():
+            raise row.fault(Column.PAUSES, "where clocks change shifts are not of one length; leave out --zone")
+        [shift] = lengths
+        count = -(-duration // shift)
+        found = Cut(row, [f"{row.cell(Column.NAME)} ({number} of {count})" for number in range(1, count + 1)], crew, shift)
+        self.found.append(found)
+        return [part(found, number, min(shift, duration - shift * number)) for number in range(count)]
+
+    def shifts(self, crew: frozenset[int], time: int | None = None) -> list[Stretch]:
+        """Those within some weeks after a time. The first and the last one may be cut."""
+        now = self.crews.now
+        until = self.crews.after(now if time is None else time, SPANS[0])
+        return windows(self.crews.off(until), crew, now, until)
+
+    def name(self, activities: Activities) -> None:
+        """A lag to a row that was cut is tied to its first part or to its last one."""
+        for one in self.found:
+            first, name, id_ = activities.names.get(one.parts[0]), one.row.cell(Column.NAME), one.row.cell(Column.ID).casefold()
+            if first is not None:
+                activities.lasts[first] = activities.names[one.parts[-1]]
+                activities.names = {name: first} | activities.names
+                activities.ids = ({id_: first} if id_ else {}) | activities.ids
+
+    def lags(self, project: Project, names: dict[str, int]) -> tuple[list[Arc], list[DatedLag]]:
+        """By which each part begins with the shift after that of the one before."""
+        arcs, dated = list[Arc](), list[DatedLag]()
+        for one in self.found:
+            shifts = self.shifts(one.crew, project.horizon)
+            if any(ends - begins != one.shift for begins, ends in shifts[1:-1]):
+                raise BadInput(f"{one.row.fault(Column.PAUSES, UNEQUAL)}")
+            begins = [begin for begin, end in shifts if end - begin == one.shift or end == shifts[-1][1]]
+            steps = {later - sooner for sooner, later in zip(begins, begins[1:])}
+            for first, last in zip(one.parts, one.parts[1:]):
+                arcs.append(Arc(names[first], names[last], min(steps)))
+                arcs.append(Arc(names[last], names[first], -max(steps)))
+                if len(steps) > 1:
+                    dated.append(ShiftLag(arcs[-1], 0, one.shift, True, False, self.crews.calendar, tuple(begins)))
+        return arcs, dated
+
+
+def part(cut: Cut, number: int, periods: int) -> Row:
+    """One part: the lags and dates of the row's start are those of the first, the dates of its end those of the last."""
+    row, scale, places = cut.row, cut.row.terms.scale, cut.row.terms.columns.places
+    unit = {Unit.MINUTES: "min", Unit.DAYS: "d", Unit.WEEKS: "w"}.get(scale.period, "periods")
+    length = periods * scale.minutes if scale.period is Unit.MINUTES else periods
+    texts = {Column.NAME: cut.parts[number], Column.DURATION: f"{length} {unit}", Column.PAUSES: ""}
+    texts |= {Column.ID: f"{row.cell(Column.ID)}/{number + 1}"} if row.cell(Column.ID) else {}
+    texts |= {column: "" for column in (*(OF_FIRST if number else ()), *(OF_LAST if number + 1 < len(cut.parts) else ()))}
+    told = {places[column]: text for column, text in texts.items() if column in places}
+    return replace(row, cells=with_texts(row.cells, told))
+
+
+def with_texts(cells: Sequence[str], texts: dict[int, str]) -> list[str]:
+    wide = max([len(cells), *(place + 1 for place in texts)])
+    return [texts.get(place, cells[place] if place < len(cells) else "") for place in range(wide)]
