@@ -40,7 +40,7 @@ class ByHand(InFolder):
         self.assertRegex(chart, r"fitters +of 6   44\.")
         bad = answer.read_text().replace("4,close,156,10,166", "4,close,150,10,160")
         told = plan("check", table, self.file("b.csv", bad))
-        self.assertIn("at 2026-03-08 12:00, 4 units of fitters are in use, of which there are 0 while 6 are away", told.stdout)
+        self.assertIn("at 2026-03-08 12:00, 4 units of fitters are in use, outside its hours: 4 (close)", told.stdout)
 
     def test_a_horizon(self) -> None:
         """Nothing is said to be a shortest schedule that ends when hours are not known any more."""
@@ -164,6 +164,7 @@ class Refused(InFolder):
             (begin + "x (1; days),y (1; nights)\na,1,1,1\n", "all that it needs is never there at once"),
             (begin + "crew (2; 06:00-10:00 12:00-18:00),may pause\na,13,1,yes\n", "are not of one length; write a row for "),
             (begin + "crew (2; days),may pause\na,13,1,perhaps\n", "'perhaps' is neither yes nor no"),
+            ("horizon,2026-04-01\n" + begin + "note\na,3,\n", "row 1: horizon 2026-04-01: no resource has hours of its own"),
             ("shift,08:00-16:00\n" + begin + "note\na,3 cd,\n", "depends on its date"),
             ("period,4 hours\n" + begin + "crew (2; 06:30-18:30)\na,4,1\n", "is within a period; choose a shorter --period"),
         ):

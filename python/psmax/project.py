@@ -113,9 +113,11 @@ class Project:
 
     def away(self, resource: int, time: int) -> int:
         """How many units of a resource are away at a time."""
-        if any(one.resource == resource and one.begins <= time < one.ends for one in self.off):
-            return self.capacities[resource]
-        return self.absent(resource, time)
+        return self.capacities[resource] if self.is_off(resource, time) else self.absent(resource, time)
+
+    def is_off(self, resource: int, time: int) -> bool:
+        """Whether a time is outside the hours of a resource."""
+        return any(one.resource == resource and one.begins <= time < one.ends for one in self.off)
 
     def absent(self, resource: int, time: int) -> int:
         """The same by absences alone."""

@@ -249,7 +249,8 @@ def held(words: Words, starts: tuple[int, ...], activity: int) -> list[str]:
         used = sum(project.demands[i][resource] for i in others) + away
         if units and project.durations[activity] and used + units > project.capacities[resource]:
             by = [*map(words.names.activity, others), *([f"{away} away"] if away else [])]
-            told.append(f"{units} of {words.names.resource(resource)}, until then in use: {', '.join(by)}")
+            why = "outside its hours" if project.is_off(resource, start - 1) else f"in use: {', '.join(by)}"
+            told.append(f"{units} of {words.names.resource(resource)}, until then {why}")
     return told
 
 

@@ -207,6 +207,7 @@ class Words:
         used, away = sum(project.demands[i][resource] for i in running), project.away(resource, time)
         there = project.capacities[resource] - away
         left = f"of which there {are(there)}" + (f" while {away} {'is' if away == 1 else 'are'} away" if away else "")
+        left = "outside its hours" if project.is_off(resource, time) else left
         return (f"{self.at(time)}, {used} units of {self.names.resource(resource)} are in use, {left}: "
                 + ", ".join(map(self.names.activity, running)))
 
