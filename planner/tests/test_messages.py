@@ -64,7 +64,6 @@ class OfProjects(InFolder):
         for command in ("solve", "why", "where", "gantt", "write", "check", "float"):
             with self.subTest(command):
                 self.refused(plan(command, answer, given=b"0 0\n"), 2, "best: this is an answer, and no project")
-        self.refused(plan("solve", self.file("t.xlsx", b"PK\x03\x04")), 2, "this is a spreadsheet file, and no project")
 
 
 class OfAnswers(InFolder):

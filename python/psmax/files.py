@@ -16,6 +16,7 @@ from .errors import BadInput, Failed
 STANDARD_INPUT = "/dev/stdin"  # where an answer comes from that is in no file
 DASH = "-"  # what standard input is called by words of the command
 MARK = b"\xef\xbb\xbf"  # the byte order mark of UTF-8
+SPREADSHEET = b"PK\x03\x04"  # how a spreadsheet file begins
 PAGE = "cp1252"  # of Windows in the west of Europe
 LARGEST = 16_777_216  # bytes; psmax reads no longer text, so one byte more is enough to know
 MOST_BYTES = 4_194_304  # of a table, an answer, and a text of any format but psmax's own and XML
@@ -50,14 +51,13 @@ def read_input(path: str | None) -> bytes:
     return HELD[sys.stdin]
 
 
-def read_text(path: str) -> str:
-    """The text of a file, without a byte order mark."""
+def read_text(path: str, sheet: str | None = None) -> str:
+    """The text of a file, without a byte order mark; of a spreadsheet file one of its sheets in CSV."""
     data = without_blank_rows(read_bytes(path))
-    must_be_short(path, data)
-    if data.startswith(b"PK\x03\x04"):
-        raise BadInput(f"{path}: a spreadsheet file, not a table in text; save it as CSV")
+    if not data.startswith(SPREADSHEET):
+        must_be_short(path, data)
     try:
-        return decode(data)
+        return text_in(data, path, sheet)
     except UnicodeDecodeError as fault:
         line = data.count(b"\n", 0, fault.start) + 1
         raise BadInput(f"{path}: line {line} is not UTF-8; save the table as CSV in UTF-8") from None
@@ -91,6 +91,16 @@ def is_in_code_page(data: bytes) -> bool:
     except UnicodeDecodeError:
         return b"\0" not in data
     return False
+
+
+def text_in(data: bytes, called: str, sheet: str | None = None) -> str:
+    """The same, also of a spreadsheet file. A sheet that is named of any other file is a fault."""
+    if data.startswith(SPREADSHEET):
+        from .spreadsheet import as_csv
+        return as_csv(data, called, sheet)
+    if sheet is not None:
+        raise BadInput(f"{called}: --sheet is for spreadsheet files")
+    return decode(data)
 
 
 def decoded(data: bytes) -> str:

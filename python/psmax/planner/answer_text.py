@@ -6,7 +6,7 @@ from dataclasses import dataclass, field
 
 from ..dates import is_dated
 from ..errors import BadInput
-from ..files import decoded, must_be_short, read_input
+from ..files import SPREADSHEET, decoded, must_be_short, read_input, text_in
 from ..letters import composed, short
 from .columns import is_head
 from .csv_text import Sheet, cell, letters, read_sheet
@@ -16,7 +16,8 @@ LINE = re.compile(r"[ \t]*([0-9]{1,4})[ \t]+(-?[0-9]{1,10})[ \t\r]*")
 START = re.compile(r"-?[0-9]{1,10}")
 PROJECT = re.compile(r"\d+[ \t]+\d+[ \t]+0[ \t]+0\s")  # the beginning of a project
 KEYS = {"bound", "makespan", "starts", "status"}  # of an answer in JSON (docs/FORMAT.md)
-NAMED = {"activity", "name", "task name", "task"}  # columns by which an activity is known
+NAMED = {"activity", "name", "task name", "task", "vorgang", "vorgangsname"}  # columns by which an activity is known
+STARTS = {"start", "anfang", "beginn"}  # columns that say when it starts
 VIOLATIONS = "these are violations that `check` found, and no starts"
 WITHOUT = {  # the beginning of an answer without starts, and what it means
     "no schedule": "there is none to show; `plan why` says why",
@@ -34,8 +35,8 @@ NO_ANSWER = {  # the beginning of what is no answer, and what it is
 PERIOD = "period"  # the column that says what starts count
 HEADS = {  # of an answer's columns
     "activity": ("activity",),
-    "name": ("name", "task name", "task"),
-    "start": ("start",),
+    "name": ("name", "task name", "task", "vorgang", "vorgangsname"),
+    "start": ("start", "anfang", "beginn"),
     "day": ("first day", "from"),
     "takes": ("takes",),
     PERIOD: (PERIOD,),
@@ -77,9 +78,9 @@ def read_answer(path: str | None) -> AnswerText:
 
 def answer_of(data: bytes, called: str) -> AnswerText:
     must_be_short(called, data)
-    text = decoded(data)
+    text = text_in(data, called) if data.startswith(SPREADSHEET) else decoded(data)
     sheet = named_sheet(text)
-    if sheet is not None and "start" in map(str.lower, sheet.heads):
+    if sheet is not None and not STARTS.isdisjoint(map(str.lower, sheet.heads)):
         return from_sheet(sheet, called)
     if sheet is not None:
         raise BadInput(f"{called}: This is a table without a column `start`, and no answer.")
@@ -179,7 +180,7 @@ def first_line(told: dict[str, object]) -> str | None:
 def answer_sheet(text: str) -> Sheet | None:
     """The rows of an answer in CSV, as `plan write` makes it; none where the text is none, or is a table of activities."""
     sheet = named_sheet(text)
-    has_starts = sheet is not None and "start" in map(str.lower, sheet.heads)
+    has_starts = sheet is not None and not STARTS.isdisjoint(map(str.lower, sheet.heads))
     return sheet if sheet is not None and has_starts and not is_head(sheet.heads) else None
 
 
@@ -197,7 +198,7 @@ def named_sheet(text: str) -> Sheet | None:
 
 def is_answer_head(row: list[str]) -> bool:
     heads = {head.lower() for head in row}
-    return bool(NAMED & heads) and "start" in heads
+    return bool(NAMED & heads) and bool(STARTS & heads)
 
 
 def from_sheet(sheet: Sheet, called: str) -> AnswerText:

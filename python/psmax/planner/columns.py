@@ -5,6 +5,7 @@ from dataclasses import dataclass, field
 from enum import Enum
 from functools import lru_cache
 
+from ..dates import is_dated
 from ..errors import BadInput
 from ..letters import short
 from ..project import MOST_RESOURCES, MOST_UNITS
@@ -13,6 +14,7 @@ from .csv_text import Sheet, cell
 from .faults import Faults, fault_at
 from .quantities import WORDS, Unit
 
+WITH_NUMBER = re.compile(r"[-+<>]?\s*[.,]?\d|(?:yes|no|ja|nein|x|true|false)$", re.I)
 RESOURCE = re.compile(r"(.*\S)\s*\(\s*(\d+)\s*(?:[,;]\s*([^()]*[^()\s])\s*)?\)")
 
 
@@ -65,8 +67,15 @@ HEADS = {head: column for column, heads in (  # in English, then in German
     (Column.SUMMARY, "summary, sammelvorgang, gruppe"),
     (Column.PAUSES, "may pause, pauses, darf pausieren, unterbrechbar"),
     (Column.NOTE, "note, notes, remark, remarks, comment, comments, notiz, notizen, bemerkung, bemerkungen, kommentar"),
-    (Column.COMPUTED, "start, end, finish, first day, last day, anfang, ende"),
+    (Column.COMPUTED, "start, end, finish, first day, last day, free float, total float, critical, late, "
+     "beginn, anfang, ende, freier puffer, gesamtpuffer, kritisch, verspätet"),
 ) for head in heads.split(", ")}
+ELSEWHERE = {head: instead for heads, instead in (  # what tables say in other columns, where it would not be read
+    ("resource, resources, resource names, ressource, ressourcen, ressourcennamen",
+     "each resource has a column of its own, with its capacity, as in 'crew (5)'"),
+    ("status", "how far an activity has come stands in started, finished, remaining or done; the status date stands above"),
+) for head in heads.split(", ")}
+NEAR = 0.8  # of two heads, from when on one may be meant for the other
 MANY = (Column.NOTE, Column.COMPUTED, Column.RESOURCE)  # of which a table may have several
 LAGS = (Column.AFTER, Column.AT_LEAST, Column.AT_MOST, Column.PREDECESSORS)
 
@@ -78,6 +87,7 @@ class Columns:
     heads: list[str]
     places: dict[Column, int] = field(default_factory=dict)
     resources: list[int] = field(default_factory=list)
+    own: list[int] = field(default_factory=list)  # of words for people alone, which plan passes over
 
     def hours(self) -> dict[int, Hours]:
         """Those of the resources that have some, by their numbers. What is wrong with others was told where heads are read."""
@@ -115,10 +125,10 @@ def read_heads(file: str, sheet: Sheet, faults: Faults) -> Columns:
     for place, head in enumerate(sheet.heads):
         found = column_of(head)
         with faults.kept():
-            if found is None and head:
-                raise fault_at(file, sheet.head_row, place, head, "not a column that plan knows; a resource has its capacity, "
-                               "as in 'crew (5)', and a column of your own words is called notes"
-                               + unquoted(sheet.heads, place))
+            if found is None and head and is_own(sheet, place):
+                columns.own.append(place)
+            elif found is None and head:
+                raise fault_at(file, sheet.head_row, place, head, why_not_own(sheet.heads, place))
             if found is Column.RESOURCE:
                 why = why_no_resource(columns, head)
                 columns.resources.append(place)
@@ -130,15 +140,37 @@ def read_heads(file: str, sheet: Sheet, faults: Faults) -> Columns:
                 columns.places[found] = place
     missing = [f"{file}: row {sheet.head_row} has no column for the {kind.value}, such as '{example}'"
                for kind, example in ((Column.NAME, "activity"), (Column.DURATION, "days")) if kind not in columns.places]
-    if missing:
-        raise BadInput(*(str(fault) for fault in faults.found), *missing)
+    if missing:  # which a column of the planner's own may be
+        own = [fault_at(file, sheet.head_row, place, sheet.heads[place], why_not_own(sheet.heads, place))
+               for place in columns.own]
+        told = sorted([*faults.found, *own], key=lambda fault: fault.place)
+        raise BadInput(*map(str, told), *missing)
     return columns
 
 
-def unquoted(heads: list[str], place: int) -> str:
-    """What else is said of a head that may be the first half of one with hours."""
+def is_own(sheet: Sheet, place: int) -> bool:
+    """Whether a column has words for people alone: its name is like none that plan knows, and some cell is neither a number
+    nor a date. What may be meant for something else is a fault."""
+    head, cells = sheet.heads[place].lower(), [cell(row, place) for row in sheet.rows]
+    is_words = any(text and not is_dated(text) and not WITH_NUMBER.match(text) for text in cells)
+    return is_words and head not in ELSEWHERE and "(" not in head and not like(head)
+
+
+def like(head: str) -> str:
+    """The name of a column that a head may be meant for."""
+    from difflib import get_close_matches
+    return next(iter(get_close_matches(head, HEADS, 1, NEAR)), "")
+
+
+def why_not_own(heads: list[str], place: int) -> str:
+    head = heads[place].lower()
+    if head in ELSEWHERE:
+        return ELSEWHERE[head]
+    if like(head):
+        return f"not a column that plan knows; did you mean '{like(head)}'?"
     is_half = re.fullmatch(r".*\(\s*\d+", heads[place]) and cell(heads, place + 1).endswith(")")
-    return "; a name with a comma in it stands in quotes" if is_half else ""
+    return ("not a column that plan knows; a resource has its capacity, as in 'crew (5)', and a column of your own words is "
+            "called notes" + ("; a name with a comma in it stands in quotes" if is_half else ""))
 
 
 def why_no_resource(columns: Columns, head: str) -> str:

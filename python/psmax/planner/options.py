@@ -5,19 +5,16 @@ import os
 import pathlib
 import re
 from collections.abc import Callable, Sequence
-from dataclasses import fields
 from functools import partial
 from typing import TYPE_CHECKING, NoReturn
 
-from ..dates import ORDERS
 from ..errors import BadInput
 from ..project import MOST_UNITS
 from .csv_text import SEPARATORS
-from .settings import GOALS, Settings, checked
+from .project_options import add_project, add_settings, opened, settings
 
 if TYPE_CHECKING:
     from .beginning import Start
-    from .project_file import ProjectFile
     from .write import Sheet
 
 SECONDS, MOST_SECONDS = 60.0, 1_000_000
@@ -126,40 +123,6 @@ def has_cubes(folder: str) -> bool:
     return is_marked(folder)
 
 
-def add_project(one: argparse.ArgumentParser) -> None:
-    one.add_argument("project", metavar="PROJECT", help="a table of activities in CSV or a project text; - for standard input")
-    one.add_argument("--names", metavar="PAGE", help="the page of names (default: the .md file beside a .sch file)")
-    add_settings(one)
-
-
-def opened(options: argparse.Namespace) -> "ProjectFile":
-    from .project_file import open_project
-    return open_project(options.project, settings(options), options.names)
-
-
-def add_settings(one: argparse.ArgumentParser) -> None:
-    """Of the project. Rows above the table, or else the page of names, say what these options do not."""
-    project = one.add_argument_group("settings of the project, which rows above the table may say too")
-    project.add_argument("--from", dest="first", metavar="DATE", help="the day or the moment at which the project starts")
-    project.add_argument("--period", metavar="P", help="the unit of time: minutes, hours, days, weeks, or '30 minutes' for "
-                         "example (default: as the table says)")
-    project.add_argument("--workdays", metavar="DAYS", help="the days with work, such as mon-fri or Mo-Fr (default: every day)")
-    project.add_argument("--holidays", metavar="DAYS", help="days without work: the public holidays of a country "
-                         "or a part of it, such as DE or DE-BY, or a file with a day or some a line")
-    project.add_argument("--shift", metavar="HOURS", help="the hours of work of a day, such as 07:00-12:00,13:00-16:00")
-    project.add_argument("--zone", metavar="ZONE", help="the time zone of periods and of calendars, such as Europe/Berlin")
-    project.add_argument("--dates", choices=ORDERS, help="what stands first in a date such as 3/2/2026: the day or the month")
-    project.add_argument("--absences", metavar="FILE", help="a table of what is away when: resource, from, to, units")
-    project.add_argument("--status", metavar="DATE", help="the day at which the table says how far the project has come")
-    project.add_argument("--minimize", choices=GOALS, help="what is minimized (default: makespan)")
-    project.add_argument("--horizon", metavar="DATE", help="up to when the hours of resources are known")
-    project.add_argument("--title", metavar="TEXT", help="what the project is called (default: as its file and folder)")
-
-
-def settings(options: argparse.Namespace) -> Settings:
-    return checked(Settings(**{field.name: getattr(options, field.name) for field in fields(Settings)}))
-
-
 def add_limits(one: argparse.ArgumentParser) -> None:
     one.add_argument("--seconds", type=seconds, default=SECONDS, metavar="S", help="stop after S seconds (default 60)")
     one.add_argument("--jobs", type=number(1, MOST_JOBS), default=PROCESSORS, metavar="N",
@@ -230,7 +193,7 @@ def run_join(options: argparse.Namespace) -> int:
 
 def add_read(one: argparse.ArgumentParser) -> None:
     from ..formats import FORMATS
-    one.add_argument("table", metavar="TABLE", help="a table in CSV or a project text; - for standard input")
+    one.add_argument("table", metavar="TABLE", help="a table or a project text; - for standard input")
     one.add_argument("--out", metavar="PROJECT", help="write the project there (default: beside the table, as .sch)")
     one.add_argument("--to", choices=[*FORMATS], help="the format that is written (default: as the suffix of --out says)")
     add_settings(one)
@@ -265,12 +228,16 @@ def add_write(one: argparse.ArgumentParser) -> None:
     add_schedule(one)
     add_table(one)
     one.add_argument("--resource", metavar="NAME", help="write only what needs this resource into a calendar")
+    one.add_argument("--total", action="store_true", help="prove total floats for a spreadsheet file")
+    add_start(one)
+    add_limits(one)
     one.set_defaults(run=run_write)
 
 
 def run_write(options: argparse.Namespace) -> int:
-    from . import write
-    return write.write(opened(options), options.answer, table(options), options.resource)
+    from . import floats, write
+    total = floats.Total(options.seconds, options.jobs, start(options)) if options.total else None
+    return write.write(opened(options), options.answer, table(options), options.resource, total)
 
 
 def add_float(one: argparse.ArgumentParser) -> None:

@@ -1,9 +1,8 @@
 """Rows that may pause: such an activity is cut into parts, each of which takes a whole shift of what it needs but the last. The
 first begins with a shift, and each other one with the next shift. That is a rule of the table, which lags say exactly."""
 from bisect import bisect_left
-from collections.abc import Sequence
 from contextlib import suppress
-from dataclasses import dataclass, field, replace
+from dataclasses import dataclass, field
 
 from ..dated import DatedLag
 from ..errors import BadInput
@@ -127,16 +126,10 @@ class Cuts:
 
 def part(cut: Cut, number: int, periods: int) -> Row:
     """One part: the lags and dates of the row's start are those of the first, the dates of its end those of the last."""
-    row, scale, places = cut.row, cut.row.terms.scale, cut.row.terms.columns.places
+    row, scale = cut.row, cut.row.terms.scale
     unit = {Unit.MINUTES: "min", Unit.DAYS: "d", Unit.WEEKS: "w"}.get(scale.period, "periods")
     length = periods * scale.minutes if scale.period is Unit.MINUTES else periods
     texts = {Column.NAME: cut.parts[number], Column.DURATION: f"{length} {unit}", Column.PAUSES: ""}
     texts |= {Column.ID: f"{row.cell(Column.ID)}/{number + 1}"} if row.cell(Column.ID) else {}
     texts |= {column: "" for column in (*(OF_FIRST if number else ()), *(OF_LAST if number + 1 < len(cut.parts) else ()))}
-    told = {places[column]: text for column, text in texts.items() if column in places}
-    return replace(row, cells=with_texts(row.cells, told))
-
-
-def with_texts(cells: Sequence[str], texts: dict[int, str]) -> list[str]:
-    wide = max([len(cells), *(place + 1 for place in texts)])
-    return [texts.get(place, cells[place] if place < len(cells) else "") for place in range(wide)]
+    return row.with_texts(texts)

@@ -9,7 +9,7 @@ from ..calendars import Calendar
 from ..clock import Clock
 from ..date_style import decimal_sign, style_of
 from ..errors import BadInput
-from ..files import decoded, is_in_code_page, read_bytes, read_text, without_blank_rows
+from ..files import SPREADSHEET, decoded, is_in_code_page, read_bytes, read_text, without_blank_rows
 from ..formats import FORMATS, must_be_readable, read
 from ..formats.sch import CTRL_Z
 from ..project import Goal
@@ -107,8 +107,8 @@ def page_of(project: str) -> str:
 def open_project(path: str, words: Settings = Settings(), page: str | None = None) -> ProjectFile:
     """The project in a file, with the names of the page that is named, which must be there, or of the one beside it."""
     data = without_blank_rows(read_bytes(path))
-    if data.startswith(b"PK\x03\x04"):
-        raise BadInput(f"{path}: this is a spreadsheet file, and no project; save its table as CSV")
+    if data.startswith(SPREADSHEET):
+        return open_table(path, words, page)
     must_be_readable(path, data)
     text = decoded(data)
     if text.startswith(WITH_STARTS) or (not is_table(path, text) and answer_sheet(text) is not None):
@@ -142,7 +142,7 @@ def open_other(path: str, data: bytes, words: Settings, page: str | None) -> Pro
     if page is not None:
         words = words.over(from_rows(read_page(read_bytes(page)).settings, os.path.dirname(page)))
     settings = checked(words.over(told))
-    for name in ("absences", "status"):
+    for name in ("absences", "status", "horizon", "sheet"):
         if getattr(settings, name) is not None:
             raise BadInput(f"{path}: --{name} is for tables")
     numbers = made.numbers(settings.minimize or Goal.MAKESPAN.value)
@@ -190,7 +190,7 @@ def open_table(path: str, words: Settings, page: str | None = None) -> ProjectFi
     """The page beside a table is no part of it; one that is named says what the words and the table don't."""
     if page is not None:
         words = words.over(from_rows(read_page(read_bytes(page)).settings, os.path.dirname(page)))
-    text = read_text(path)
+    text = read_text(path, words.sheet)
     found = read_table(path, text, words, os.path.dirname(path))
     if is_in_code_page(read_bytes(path)):
         found = replace(found, notes=(f"{path} is no UTF-8, and is read in code page 1252, that of Windows", *found.notes))
@@ -221,7 +221,7 @@ def open_text(path: str, data: bytes, words: Settings, page: str | None) -> Proj
     if table is not None and os.path.isfile(table):
         return made_of(path, data, names, told, words, table, sources)
     settings = checked(words.over(told))
-    for name in ("absences", "status", "minimize"):
+    for name in ("absences", "status", "minimize", "horizon", "sheet"):
         if getattr(settings, name) is not None:
             raise BadInput(f"{path}: --{name} needs the table of the project" + (f", {table}" if table is not None else ""))
     Psmax(Clock(), path).earliest_of_text(data)
@@ -237,7 +237,7 @@ def made_of(path: str, data: bytes, names: Names, told: Settings, words: Setting
     advice = f"give the table itself, or make the project again by `plan read {table}`"
     if names.digest and sha256(read_bytes(table)).hexdigest() != names.digest:
         raise BadInput(f"{path} is older than its table {table}, which was changed; {advice}")
-    text, folder = read_text(table), os.path.dirname(table)
+    text, folder = read_text(table, words.over(told).sheet), os.path.dirname(table)
     found = read_table(table, text, Settings(), folder, told)
     if ProjectText(found.project).text.split() != data.split():
         raise BadInput(f"{path} is not what `plan read` makes of {table} today; {advice}")

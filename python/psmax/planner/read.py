@@ -9,7 +9,7 @@ from ..api import Project
 from ..call_files import lose_none
 from ..clock import Clock
 from ..errors import BadInput
-from ..files import DASH, decoded, read_bytes, read_text, without_blank_rows, write_whole
+from ..files import DASH, SPREADSHEET, decoded, read_bytes, read_text, without_blank_rows, write_whole
 from ..letters import printable
 from ..project import Goal, too_needy
 from ..project_text import ProjectText
@@ -32,6 +32,8 @@ MODES = f"; a PSPLIB set with several modes for an activity (MRCPSP/max) is anot
 def read(path: str, out: str | None, wanted: str | None, words: Settings) -> int:
     """By what the file holds; a name that ends in .sch says that it is none of a table."""
     data = without_blank_rows(read_bytes(path))
+    if data.startswith(SPREADSHEET) and wanted in (None, "sch"):
+        return read_activities(path, out, words)
     formats.must_be_readable(path, data)
     text = decoded(data)
     is_sch = pathlib.Path(path).suffix.lower() == PSPLIB or formats.FORMATS["sch"].is_like(text)
@@ -68,7 +70,7 @@ def convert(path: str, out: str | None, wanted: str) -> int:
 
 def read_activities(path: str, out: str | None, words: Settings) -> int:
     """The table to a .sch file beside it, or to the one that is named, and the page of names beside that."""
-    text = read_text(path)
+    text = read_text(path, words.sheet)
     if answer_sheet(text) is not None:
         raise BadInput(f"{path}: this is an answer, and no table of activities")
     if path == DASH and out is None:

@@ -11,6 +11,8 @@ from ..dates import DAYS as NAMES_OF_DAYS
 from ..dates import MIDNIGHT
 from ..project import Arc, least_starts
 from .above import Above
+from .columns import column_of
+from .csv_text import letters
 from .project_file import ProjectFile
 from .free_days import CODE
 from .settings import Settings, called, named_holidays
@@ -153,10 +155,22 @@ def dates(file: ProjectFile) -> Iterator[str]:
 
 def read_back(file: ProjectFile) -> list[str]:
     """All that `plan check` says of a table without an answer."""
-    lines = [read_back_line(file), *file.notes, *below("settings", settings_read(file))]
+    lines = [read_back_line(file), *file.notes, *below("columns", columns(file)), *below("settings", settings_read(file))]
     if file.calendar is not None:
         lines += weeks(file, file.calendar) + below("holidays of the first year", free_days(file, file.calendar))
     return lines + below("absences", absences(file))
+
+
+def columns(file: ProjectFile) -> list[str]:
+    """What each is read as."""
+    found = file.table.columns if file.table is not None else None
+    if found is None:
+        return []
+    said = {place: f"resource, {many(units, 'unit')}" for place, units in zip(found.resources, file.project.capacities)}
+    said |= {place: kind.value for place, kind in enumerate(map(column_of, found.heads)) if kind and place not in said}
+    heads = [(place, head) for place, head in enumerate(found.heads) if head]
+    wide = max(len(head) for _, head in heads)
+    return [f"{letters(place):2} {head:{wide}}  {said.get(place, 'passed over')}" for place, head in heads]
 
 
 def below(head: str, lines: list[str]) -> list[str]:

@@ -1,8 +1,8 @@
 """Rows of a table of activities: what their cells say, and which of them are groups of those below."""
 import datetime
 import re
-from collections.abc import Sequence
-from dataclasses import dataclass, field
+from collections.abc import Iterable, Mapping, Sequence
+from dataclasses import dataclass, field, replace
 
 from ..calendars import Calendar
 from ..dates import FAR, FAR_YEARS, Moment, is_before, is_dated, read_moment
@@ -45,6 +45,12 @@ class Row:
     def cell(self, column: Column) -> str:
         text = cell(self.cells, self.terms.columns.places.get(column))
         return "" if column in DATED and text.upper() in ("NA", "N/A") else text
+
+    def with_texts(self, texts: Mapping[Column, str]) -> "Row":
+        """The same with other texts, where the table has such columns."""
+        told = {self.terms.columns.places[one]: text for one, text in texts.items() if one in self.terms.columns.places}
+        wide = max([len(self.cells), *(place + 1 for place in told)])
+        return replace(self, cells=[told.get(place, cell(self.cells, place)) for place in range(wide)])
 
     def fault(self, column: int | Column, text: str) -> CellFault:
         place = column if isinstance(column, int) else self.terms.columns.places[column]
@@ -206,6 +212,18 @@ class Row:
         if text not in YES + NO:
             raise self.fault(column, f"'{short(text)}' is neither yes nor no")
         return text in YES
+
+
+def told_apart(rows: Iterable[Row]) -> list[Row]:
+    """Activities of one name that have numbers of their own are called by these too."""
+    ids: dict[str, list[str]] = {}
+    rows = [*rows]
+    for row in rows:
+        if row.cell(Column.DURATION):
+            ids.setdefault(row.cell(Column.NAME), []).append(row.cell(Column.ID).casefold())
+    twice = {name for name, own in ids.items() if len(own) > 1 and all(own) and len({*own}) == len(own)}
+    return [row.with_texts({Column.NAME: f"{row.cell(Column.NAME)} ({row.cell(Column.ID)})"})
+            if row.cell(Column.NAME) in twice and row.cell(Column.DURATION) else row for row in rows]
 
 
 @dataclass(frozen=True)

@@ -34,6 +34,7 @@ class Settings:
     status: str | None = None
     minimize: str | None = None
     horizon: str | None = None
+    sheet: str | None = None
     title: str | None = None
 
     def over(self, other: "Settings") -> "Settings":

@@ -23,7 +23,7 @@ from .names import Names
 from .pauses import Cuts
 from .progress import Progress
 from .quantities import Length, Scale, Unit, read_length, scale_of, units_of
-from .rows import Group, Row, Terms, groups, is_summary, level
+from .rows import Group, Row, Terms, groups, is_summary, level, told_apart
 from .settings import HOURS_OF_WORK, Settings, calendar, checked, time_of
 
 MOST_ROWS = 10_000  # of activities, and of what more is said of them
@@ -44,6 +44,8 @@ class Table:
     rows: tuple[int, ...]  # in which the activities stand, as a spreadsheet numbers them
     notes: tuple[str, ...]  # what is to be said of it before anything is done with it
     above: Above
+    columns: Columns
+    head_row: int  # in which their names stand
     crews: Crews | None = None  # the resources with hours of their own
     pauses: tuple[Arc, ...] = ()  # between the parts of rows that may pause
 
@@ -138,6 +140,7 @@ class Reading:
     def table(self, above: Above) -> Table:
         terms, progress = self.terms, Progress(self.time(self.settings.status, "status"))
         crews = crews_of(terms, self.settings, progress.now or 0)
+        self.named = told_apart(self.named)
         cuts = self.cut(crews)
         self.part()
         for row in self.rows:
@@ -156,16 +159,19 @@ class Reading:
         names.ids = {number: row.cell(Column.ID) for number, row in enumerate(self.rows, 1) if row.cell(Column.ID)}
         project = replace(project, dated=tuple(one for one in lags.dated if one.arc in arcs))
         project, pauses = self.with_crews(project, crews, cuts)
-        notes = [*self.said_of_period(), *self.said_of_start(), *self.terms.told]
+        notes = [*self.said_of_period(), *self.said_of_start(), *self.said_of_own(), *self.terms.told]
         notes += [said_of_history(arc, called) for arc in broken]
         mornings = lags.activities.mornings
         return Table(project, names, self.settings, terms.calendar, (*self.parts.values(),), mornings, progress, terms.scale,
-                     tuple(row.number for row in self.rows), tuple(notes), above, crews, pauses)
+                     tuple(row.number for row in self.rows), tuple(notes), above, terms.columns,
+                     terms.head_row, crews, pauses)
 
     def with_crews(self, project: Project, crews: Crews | None, cuts: Cuts | None) -> tuple[Project, tuple[Arc, ...]]:
         """With the times outside hours, and with what ties the parts of rows that may pause, which stands behind all other
         arcs."""
         if crews is None or cuts is None:
+            if self.settings.horizon is not None:
+                raise BadInput(f"horizon {short(self.settings.horizon)}: no resource has hours of its own")
             return project, ()
         project = with_hours(project, crews, self.time(self.settings.horizon, "horizon"))
         arcs, dated = cuts.lags(project, self.names)
@@ -314,6 +320,11 @@ class Reading:
         day += f", {HOURS_OF_WORK}, until --shift says other hours" if self.terms.is_guess else ""
         why = "as --period says" if scale.is_named else f"which divide all lengths of {self.terms.file}"
         return [f"a period is one of {scale.name()}, {why}{day}"]
+
+    def said_of_own(self) -> list[str]:
+        """Which columns are for people alone."""
+        heads = [f"'{short(self.terms.columns.heads[place])}'" for place in self.terms.columns.own]
+        return [f"{self.terms.file}: columns of your own are passed over: {', '.join(heads)}"] if heads else []
 
     def said_of_start(self) -> list[str]:
         """When the project starts, where no period begins at the moment that is named."""

@@ -162,7 +162,7 @@ class Watch:
 def named_in(path: str, settings: Settings) -> set[str]:
     """The files that a table names, even where it has a fault."""
     with suppress(Fault):
-        above = read_above(path, read_sheet(path, read_text(path), is_head), os.path.dirname(path))
+        above = read_above(path, read_sheet(path, read_text(path, settings.sheet), is_head), os.path.dirname(path))
         return {*settings.over(above.settings).files().values()}
     return set()
 

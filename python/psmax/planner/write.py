@@ -5,6 +5,7 @@ import os
 import pathlib
 import sys
 from dataclasses import dataclass
+from typing import TYPE_CHECKING
 
 from ..call_files import lose_none, must_be_like
 from ..clock import Clock
@@ -12,12 +13,19 @@ from ..errors import BadInput
 from ..files import STANDARD_INPUT, read_bytes, write_whole
 from ..formats import mspdi_sign
 from ..psmax import Psmax
+from ..psprove import Psprove
+from ..spreadsheet import SUFFIX
 from . import icalendar
 from .answer import feasible
 from .answer_text import PERIOD, read_answer
+from .beginning import begin_with
 from .headline import MISSED, verdict
 from .csv_text import SEPARATORS, Text, read_sheet, write_sheet
 from .project_file import ProjectFile
+from .window import windows
+
+if TYPE_CHECKING:
+    from .floats import Total
 
 HEADS = ["activity", "name", "start", "takes", "end"]  # and what they count, where a period is none of the table's own
 
@@ -89,16 +97,33 @@ def put(text: str, out: str | None) -> None:
         sys.stdout.write(text)
 
 
-def write(opened: ProjectFile, given: str | None, sheet: Sheet, resource: str | None = None) -> int:
+def into_workbook(opened: ProjectFile, starts: tuple[int, ...], out: str, wanted: "Total | None") -> list[str]:
+    """What of the table's own file is not in the new one. Total floats are proved where that is wanted."""
+    from . import floats, workbook
+    total = None
+    if wanted is not None:
+        clock = Clock(wanted.seconds)
+        clock.listen()
+        total = floats.total_float(begin_with(opened, wanted.start), starts, Psprove(clock, opened.path), wanted.jobs)
+    found = windows(opened.project, starts, Psmax(Clock(), opened.path))
+    return [f"{line}\n" for line in workbook.write(workbook.Filled(opened, starts, found, total), out)]
+
+
+def write(opened: ProjectFile, given: str | None, sheet: Sheet, resource: str | None = None,
+          total: "Total | None" = None) -> int:
     """As a table, or as what the suffix of the file says."""
     lose_none(opened.inputs() | {"the answer": given or STANDARD_INPUT}, [sheet.out])
     suffix = pathlib.PurePath(sheet.out or "").suffix.lower()
+    if total is not None and suffix != SUFFIX:
+        raise BadInput(f"--total is for a spreadsheet file, which --out names with {SUFFIX}; plan float has it for others")
     if resource is not None and suffix != icalendar.SUFFIX:
         raise BadInput(f"--resource is for a calendar, which --out names with {icalendar.SUFFIX}")
     known = feasible(opened, read_answer(given), Psmax(Clock(), opened.path))
     if suffix == icalendar.SUFFIX:
         must_be_like(sheet.out, icalendar.BEGIN, "calendar")
         put(icalendar.calendar_text(opened, known.starts, resource, datetime.datetime.now(datetime.UTC)), sheet.out)
+    elif suffix == SUFFIX:
+        sys.stdout.write("".join(into_workbook(opened, known.starts, sheet.out or "", total)))
     elif suffix == mspdi_sign.SUFFIX:
         must_be_like(sheet.out, b"<", "XML")
         put(replanned(opened, known.starts), sheet.out)

@@ -1,0 +1,146 @@
+"""Spreadsheet files (.xlsx): one sheet as a text in CSV, each cell as the sheet shows it. The package openpyxl reads them."""
+import csv
+import datetime
+import io
+import re
+import zipfile
+from collections.abc import Iterator
+from typing import TYPE_CHECKING, Any, NamedTuple
+
+from .date_style import decimal_sign
+from .errors import BadInput, Failed
+from .extras import extra
+from .files import LARGEST
+from .letters import short
+
+if TYPE_CHECKING:
+    from types import ModuleType
+
+SUFFIX = ".xlsx"
+MOST_UNPACKED = 64 << 20  # bytes of all parts
+MOST_ROWS, MOST_CELLS = 100_000, 250_000  # as of other tables
+MINUTE = datetime.timedelta(minutes=1)
+DAY_0 = datetime.datetime(1899, 12, 31)
+HOURS = "[h"  # how the format of a length begins, such as [h]:mm
+UNIT = re.compile(r'"\s*([^\W\d_]+\.?)\s*"')  # in the format of a number, such as 0.0 "h"
+DOTS = re.compile(r"d+\\?\.\\?m+\\?\.\\?y+", re.I)  # in the format of a date
+EXTRA = "xlsx"  # of the package, which needs openpyxl
+
+
+class Number(NamedTuple):
+    value: float
+    unit: str  # that the sheet shows behind it
+
+
+def openpyxl(called: str) -> "ModuleType":
+    return extra("openpyxl", f"{called}: a spreadsheet file", EXTRA)
+
+
+def workbook(data: bytes, called: str, **options: bool) -> Any:
+    """A file that is none, or that has much in little room, is a fault."""
+    if len(data) > LARGEST:
+        raise BadInput(f"{called}: too long: it has more than {LARGEST:,} bytes")
+    try:
+        with zipfile.ZipFile(io.BytesIO(data)) as parts:
+            size = sum(part.file_size for part in parts.infolist())
+            if "mimetype" in parts.namelist():
+                raise BadInput(f"{called}: a file of OpenDocument; save it as {SUFFIX} or as CSV")
+        if size > MOST_UNPACKED:
+            raise BadInput(f"{called}: too long: unpacked it has more than {MOST_UNPACKED:,} bytes")
+        return openpyxl(called).load_workbook(io.BytesIO(data), **options)
+    except (BadInput, Failed):
+        raise
+    except Exception as fault:  # of many kinds, by what is damaged
+        raise BadInput(f"{called}: this is a spreadsheet file, and it can't be read: {short(repr(fault))}") from None
+
+
+def sheet_of(book: Any, name: str | None, called: str) -> Any:
+    """The sheet of this name, or the first one that is shown."""
+    shown = [one for one in book.worksheets if one.sheet_state == "visible"] or book.worksheets
+    found = next((one for one in book.worksheets if one.title == name), None) if name is not None else next(iter(shown), None)
+    if found is None:
+        raise BadInput(f"{called}: no sheet '{short(name or '')}'; it has "
+                       + ", ".join(f"'{short(one.title)}'" for one in book.worksheets))
+    return found
+
+
+def as_csv(data: bytes, called: str, name: str | None = None) -> str:
+    """The rows stand where they stand in the sheet."""
+    rows = [[*row] for row in cells_of(data, called, name)]
+    texts = [one for row in rows for one in row if isinstance(one, str)]
+    comma = decimal_sign(texts) == ","
+    text = io.StringIO()
+    csv.writer(text, lineterminator="\n").writerows([number_text(one, comma) for one in row] for row in without_blank(rows))
+    return text.getvalue()
+
+
+def without_blank(rows: list[list[object]]) -> list[list[object]]:
+    last = max((place for place, row in enumerate(rows) if any(one != "" for one in row)), default=-1)
+    return rows[: last + 1]
+
+
+def cells_of(data: bytes, called: str, name: str | None) -> Iterator[list[object]]:
+    """The text of each cell, or its number. A formula is its value, which the spreadsheet has left in the file."""
+    values, formulas = (sheet_of(workbook(data, called, read_only=True, data_only=is_value), name, called)
+                        for is_value in (True, False))
+    values.reset_dimensions()
+    formulas.reset_dimensions()
+    count, faults = 0, list[str]()
+    for number, (row, told) in enumerate(zip(values.iter_rows(), formulas.iter_rows()), 1):
+        count += len(row)
+        if number > MOST_ROWS or count > MOST_CELLS:
+            raise BadInput(f"{called}: a table has at most {MOST_ROWS:,} rows and {MOST_CELLS:,} cells")
+        faults += [fault for one, formula in zip(row, told) for fault in why_not(one, formula, called)]
+        yield [shown(one) for one in row]
+    if faults:
+        raise BadInput(*faults)
+
+
+def why_not(cell: Any, formula: Any, called: str) -> list[str]:
+    if cell.data_type == "e":
+        return [f"{called}: cell {cell.coordinate}: {short(str(cell.value))}"]
+    if formula.data_type == "f" and cell.value is None and cell.data_type in ("n", "f"):
+        return [f"{called}: cell {formula.coordinate}: a formula without its value; open and save the file in a spreadsheet"]
+    return []
+
+
+def shown(cell: Any) -> object:
+    """A text as the sheet shows it, or a number, whose decimal sign is that of the sheet's texts."""
+    value, form = cell.value, getattr(cell, "number_format", "") or ""
+    if isinstance(value, bool):
+        return str(value).lower()
+    if form.lower().startswith(HOURS) and isinstance(value, datetime.datetime | datetime.time | datetime.timedelta):
+        return Number(minutes_in(value), "min")
+    if isinstance(value, datetime.datetime):
+        return moment_text(value, form)
+    if isinstance(value, datetime.time):
+        return f"{value:%H:%M}"
+    if isinstance(value, int | float) and "%" in form:
+        return Number(100 * value, "%")
+    if isinstance(value, int | float):
+        unit = UNIT.search(form)
+        return Number(value, unit[1] if unit else "")
+    return "" if value is None else str(value)
+
+
+def minutes_in(value: datetime.datetime | datetime.time | datetime.timedelta) -> float:
+    """Of a length, which openpyxl takes for a moment of a day, or of days from the beginning of 1900 on."""
+    if isinstance(value, datetime.time):
+        return 60 * value.hour + value.minute + value.second / 60
+    return (value - DAY_0 if isinstance(value, datetime.datetime) else value) / MINUTE
+
+
+def moment_text(value: datetime.datetime, form: str) -> str:
+    """With the hour where the sheet shows one. A spreadsheet counts days in fractions, so a minute may be a little less."""
+    near = value + MINUTE / 2
+    value = near.replace(second=0, microsecond=0) if abs(near.second - 30) < 2 else value
+    day = f"{value:%d.%m.%Y}" if DOTS.search(form) else f"{value:%Y-%m-%d}"
+    has_hour = "h" in form.lower() or (value.hour, value.minute, value.second) != (0, 0, 0)
+    return day if not has_hour else f"{day} {value:%H:%M:%S}".removesuffix(":00")
+
+
+def number_text(cell: object, comma: bool) -> str:
+    if not isinstance(cell, Number):
+        return f"{cell}"
+    text = f"{cell.value:.10g} {cell.unit}".rstrip()
+    return text.replace(".", ",") if comma else text
