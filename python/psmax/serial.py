@@ -1,5 +1,5 @@
-"""A schedule by the serial method (Kelley 1963): one activity after another, each as soon as its minimum lags and the resources
-leave it. It may break maximum lags, so it says about how long a project takes, and nothing is proved by it."""
+"""A schedule by the serial method (Kelley 1963): one activity after another, each as soon as its minimum lags and the
+resources leave it. It may break maximum lags, so it says about how long a project takes, and proves nothing."""
 from bisect import bisect_right
 from dataclasses import dataclass, field
 

@@ -1,4 +1,4 @@
-"""Spreadsheet files (.xlsx): one sheet as a text in CSV, each cell as the sheet shows it. The package openpyxl reads them."""
+"""Spreadsheet files (.xlsx), by openpyxl: one sheet as a text in CSV, each cell as the sheet shows it."""
 import csv
 import datetime
 import io
@@ -57,7 +57,8 @@ def workbook(data: bytes, called: str, **options: bool) -> Any:
 def sheet_of(book: Any, name: str | None, called: str) -> Any:
     """The sheet of this name, or the first one that is shown."""
     shown = [one for one in book.worksheets if one.sheet_state == "visible"] or book.worksheets
-    found = next((one for one in book.worksheets if one.title == name), None) if name is not None else next(iter(shown), None)
+    wanted = shown if name is None else [one for one in book.worksheets if one.title == name]
+    found = next(iter(wanted), None)
     if found is None:
         raise BadInput(f"{called}: no sheet '{short(name or '')}'; it has "
                        + ", ".join(f"'{short(one.title)}'" for one in book.worksheets))
@@ -70,7 +71,8 @@ def as_csv(data: bytes, called: str, name: str | None = None) -> str:
     texts = [one for row in rows for one in row if isinstance(one, str)]
     comma = decimal_sign(texts) == ","
     text = io.StringIO()
-    csv.writer(text, lineterminator="\n").writerows([number_text(one, comma) for one in row] for row in without_blank(rows))
+    writer = csv.writer(text, lineterminator="\n")
+    writer.writerows([number_text(one, comma) for one in row] for row in without_blank(rows))
     return text.getvalue()
 
 
@@ -100,7 +102,8 @@ def why_not(cell: Any, formula: Any, called: str) -> list[str]:
     if cell.data_type == "e":
         return [f"{called}: cell {cell.coordinate}: {short(str(cell.value))}"]
     if formula.data_type == "f" and cell.value is None and cell.data_type in ("n", "f"):
-        return [f"{called}: cell {formula.coordinate}: a formula without its value; open and save the file in a spreadsheet"]
+        return [f"{called}: cell {formula.coordinate}: a formula without its value; open and save the file in a "
+                "spreadsheet"]
     return []
 
 
@@ -131,7 +134,7 @@ def minutes_in(value: datetime.datetime | datetime.time | datetime.timedelta) ->
 
 
 def moment_text(value: datetime.datetime, form: str) -> str:
-    """With the hour where the sheet shows one. A spreadsheet counts days in fractions, so a minute may be a little less."""
+    """With the hour where the sheet shows one. Days are counted in fractions, so a minute may be a little less."""
     near = value + MINUTE / 2
     value = near.replace(second=0, microsecond=0) if abs(near.second - 30) < 2 else value
     day = f"{value:%d.%m.%Y}" if DOTS.search(form) else f"{value:%Y-%m-%d}"

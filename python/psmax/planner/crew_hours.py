@@ -1,4 +1,4 @@
-"""Hours of a resource of its own, such as 06:00-18:00, nights or Mo-Fr, and the times outside them in the project's periods."""
+"""Hours of a resource of its own, such as 06:00-18:00, nights or Mo-Fr, and the times outside them."""
 import datetime
 import re
 from collections.abc import Collection, Iterator, Mapping
@@ -10,8 +10,9 @@ from ..letters import short
 from ..project import Off
 
 DAY_SHIFT, NIGHT_SHIFT = "06:00-18:00", "18:00-06:00"  # of two that share a day
-WORDS = {word: hours for hours, words in ((DAY_SHIFT, "days tags tagschicht"), (NIGHT_SHIFT, "nights nachts nachtschicht"))
-         for word in words.split()}
+WORDS = {word: hours for hours, words in (
+    (DAY_SHIFT, "days tags tagschicht"), (NIGHT_SHIFT, "nights nachts nachtschicht"),
+) for word in words.split()}
 MONDAY = datetime.datetime(2001, 1, 1)  # of some week
 EXAMPLE = "not hours such as 06:00-18:00, nights, or Mo-Fr 06:00-18:00"
 Stretch = tuple[int, int]  # from one time of the project until another
@@ -93,7 +94,8 @@ def time_at(calendar: Calendar, moment: datetime.datetime, hours: Hours) -> int:
     """The time that is this moment; 0 for one before the project."""
     time = calendar.from_on(moment)
     if moment > calendar.begins(0) and time != calendar.by(moment):
-        raise ValueError(f"'{short(hours.text)}': {moment:%Y-%m-%d %H:%M} is within a period; choose a shorter --period")
+        when = f"{moment:%Y-%m-%d %H:%M}"
+        raise ValueError(f"'{short(hours.text)}': {when} is within a period; choose a shorter --period")
     return time
 
 

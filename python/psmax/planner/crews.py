@@ -1,5 +1,5 @@
-"""The resources of a table that have hours of their own: the period that these need, the times outside them up to a horizon,
-and which activities fit between these."""
+"""The resources of a table that have hours of their own: the period that these need, the times outside them up to a
+horizon, and which activities fit between these."""
 from collections.abc import Collection, Iterable, Sequence
 from dataclasses import replace
 from fractions import Fraction
@@ -18,12 +18,12 @@ from .rows import Row, Terms
 from .settings import Settings
 
 SPANS = [56 * 2**step for step in range(7)]  # days in which all may have ended
-SPARE_DAYS, SPARE_SHARE = 7, 4  # that a horizon is behind a schedule: a week, or a quarter of it; it may break maximum lags
+SPARE_DAYS, SPARE_SHARE = 7, 4  # a horizon is a week behind a schedule, or a quarter of it, as that may break lags
 
 
 def parts_of(settings: Settings, marks: Collection[int] = ()) -> list[Stretch]:
-    """The hours of work of a day, in more parts where the project starts within them or the hours of a resource change there,
-    so that a period begins there."""
+    """The hours of work of a day, in more parts where the project starts within them or the hours of a resource change
+    there, so that a period begins there."""
     first = None if settings.first is None else moment(settings.first, "from", settings.dates).at
     times = sorted({*marks, 0 if first is None else 60 * first.hour + first.minute})
     found = []
@@ -63,8 +63,8 @@ def crews_of(terms: Terms, settings: Settings, now: int) -> Crews | None:
             elif not is_within(one, calendar):
                 own = settings.shift or "whole days"
                 own += " until --shift says others" if terms.is_guess else ""
-                why = f"these go beyond the hours of the project, which are {own}, {settings.workdays or 'every day'}; those " \
-                      "have to be all at which somebody works, such as --shift 00:00-24:00"
+                why = f"these go beyond the hours of the project, which are {own}, {settings.workdays or 'every day'}" \
+                      "; those have to be all at which somebody works, such as --shift 00:00-24:00"
             else:
                 why = why_inexact(Crews({number: one}, calendar, now))
             if why:
@@ -86,8 +86,8 @@ def why_inexact(crews: Crews) -> str:
 
 
 def with_hours(project: Project, crews: Crews, wanted: int | None) -> Project:
-    """The project with the times outside hours, up to the horizon that is wanted, or to one behind a schedule that keeps the
-    minimum lags."""
+    """The project with the times outside hours, up to the horizon that is wanted, or to one behind a schedule by
+    the minimum lags."""
     if wanted is not None:
         return cut_off(project, crews, max(wanted, crews.now + 1))
     for days in SPANS:
@@ -116,23 +116,32 @@ def needed(demands: Sequence[int], crews: Crews) -> frozenset[int]:
 
 def must_fit(rows: Iterable[Row], durations: Sequence[int], demands: Sequence[Sequence[int]], started: dict[int, int],
              crews: Crews, faults: Faults) -> None:
-    """What fits into no time at which all that it needs is there is a fault, and what has started and would go on beyond it."""
+    """A fault where something fits into no time at which all that it needs is there."""
     until = crews.after(crews.now, SPANS[0])
     off = crews.off(until)
     for number, row in enumerate(rows, 1):
         crew, duration = needed(demands[number - 1], crews), durations[number - 1]
-        if crew and duration:
-            found = windows(off, crew, crews.now, until)
-            longest = max((ends - begins for begins, ends in found), default=0)
-            rest = max(0, started[number] + duration - crews.now) if number in started else duration
-            with faults.kept():
-                if number in started and rest and (not found or found[0][0] > crews.now or found[0][1] < crews.now + rest):
-                    raise row.fault(Column.DURATION, f"what remains, {told(row, rest)}, goes beyond the hours of what it "
-                                    "needs; write what is done as a row that has finished, and the rest as one of its own")
-                if rest > longest and not row.is_said(Column.PAUSES):
-                    raise row.fault(Column.DURATION, f"{told(row, duration)}, and all that it needs is there for "
-                                    f"{told(row, longest)} at a time; 'yes' in a column 'may pause' cuts it into whole shifts"
-                                    if longest else "all that it needs is never there at once")
+        found = windows(off, crew, crews.now, until) if crew and duration else []
+        with faults.kept():
+            if crew and duration and number in started:
+                must_go_on(row, max(0, started[number] + duration - crews.now), found, crews.now)
+            elif crew and duration and not row.is_said(Column.PAUSES):
+                must_fit_one(row, duration, max((ends - begins for begins, ends in found), default=0))
+
+
+def must_go_on(row: Row, rest: int, found: Sequence[Stretch], now: int) -> None:
+    """What has started goes on without a break."""
+    if rest and (not found or found[0][0] > now or found[0][1] < now + rest):
+        raise row.fault(Column.DURATION, f"what remains, {told(row, rest)}, goes beyond the hours of what it needs; "
+                        "write what is done as a row that has finished, and the rest as one of its own")
+
+
+def must_fit_one(row: Row, duration: int, longest: int) -> None:
+    if duration > longest > 0:
+        raise row.fault(Column.DURATION, f"{told(row, duration)}, and all that it needs is there for "
+                        f"{told(row, longest)} at a time; 'yes' in a column 'may pause' cuts it into whole shifts")
+    if duration > longest:
+        raise row.fault(Column.DURATION, "all that it needs is never there at once")
 
 
 def told(row: Row, periods: int) -> str:

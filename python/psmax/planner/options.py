@@ -4,22 +4,19 @@ import math
 import os
 import pathlib
 import re
-from collections.abc import Callable, Sequence
+from collections.abc import Sequence
 from functools import partial
 from typing import TYPE_CHECKING, NoReturn
 
 from ..errors import BadInput
 from ..project import MOST_UNITS
 from .csv_text import SEPARATORS
-from .project_options import add_project, add_settings, opened, settings
+from .shared_options import (MOST_JOBS, SECONDS, add_limits, add_project, add_schedule, add_settings, add_start, number,
+                             opened, seconds, settings, start)
 
 if TYPE_CHECKING:
-    from .beginning import Start
     from .write import Sheet
 
-SECONDS, MOST_SECONDS = 60.0, 1_000_000
-MOST_JOBS = 64  # of psprove
-PROCESSORS = min(len(os.sched_getaffinity(0)), MOST_JOBS)
 MOST_PROJECTS = 256
 
 
@@ -38,22 +35,6 @@ class Version(argparse.Action):
         found = solve.versions()
         print(f"plan {found['plan']}, psmax {found['psmax']}, psprove {found['psprove']}, Python {found['python']}")
         parser.exit()
-
-
-def number(least: int, most: int) -> Callable[[str], int]:
-    """What reads a whole number in digits, from the least to the most."""
-    def read_number(text: str) -> int:
-        if not re.fullmatch("-?[0-9]{1,9}", text) or not least <= int(text) <= most:
-            raise argparse.ArgumentTypeError(f"'{text}' is not a whole number from {least} to {most}")
-        return int(text)
-    return read_number
-
-
-def seconds(text: str) -> float:
-    """A number of seconds, which may be less than one."""
-    if not re.fullmatch(r"[0-9]{1,7}(\.[0-9]{1,3})?", text) or not 0 < float(text) <= MOST_SECONDS:
-        raise argparse.ArgumentTypeError(f"'{text}' is not a number of seconds above 0 and up to {MOST_SECONDS}")
-    return float(text)
 
 
 def part(text: str) -> tuple[int, int]:
@@ -123,22 +104,6 @@ def has_cubes(folder: str) -> bool:
     return is_marked(folder)
 
 
-def add_limits(one: argparse.ArgumentParser) -> None:
-    one.add_argument("--seconds", type=seconds, default=SECONDS, metavar="S", help="stop after S seconds (default 60)")
-    one.add_argument("--jobs", type=number(1, MOST_JOBS), default=PROCESSORS, metavar="N",
-                     help="run N searches side by side (default: the number of processors)")
-
-
-def add_start(one: argparse.ArgumentParser) -> None:
-    one.add_argument("--start", metavar="ANSWER", help="start from this schedule")
-    one.add_argument("--frozen", metavar="DAY", help="keep what starts before this day or period in --start")
-
-
-def start(options: argparse.Namespace) -> "Start":
-    from .beginning import Start
-    return Start(options.start, options.frozen)
-
-
 def add_verify(one: argparse.ArgumentParser) -> None:
     add_project(one)
     one.add_argument("record", metavar="RECORD", nargs="?", help="a record of psprove or psmax, or a folder of cubes with one; "
@@ -203,12 +168,6 @@ def add_read(one: argparse.ArgumentParser) -> None:
 def run_read(options: argparse.Namespace) -> int:
     from . import read
     return read.read(options.table, options.out, options.to, settings(options))
-
-
-def add_schedule(one: argparse.ArgumentParser) -> None:
-    add_project(one)
-    one.add_argument("answer", metavar="ANSWER", nargs="?",
-                     help="an answer of plan, psmax or psprove, or starts (default: standard input)")
 
 
 def add_table(one: argparse.ArgumentParser) -> None:

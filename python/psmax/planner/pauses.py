@@ -1,5 +1,5 @@
-"""Rows that may pause: such an activity is cut into parts, each of which takes a whole shift of what it needs but the last. The
-first begins with a shift, and each other one with the next shift. That is a rule of the table, which lags say exactly."""
+"""Rows that may pause: such an activity is cut into parts. Each but the last takes a whole shift of what it needs. The
+first one begins with a shift, and each other one with the next. That is a rule of the table, which lags say exactly."""
 from bisect import bisect_left
 from contextlib import suppress
 from dataclasses import dataclass, field
@@ -82,13 +82,14 @@ class Cuts:
         if len(lengths) != 1:
             raise row.fault(Column.PAUSES, UNEQUAL if lengths else "all that it needs is never there at once")
         if any(row.cell(column) for column in TOLD):
-            raise row.fault(Column.PAUSES, "what has started has no parts any more; write what is done as a row that has "
-                            "finished, and the rest as one of its own")
+            raise row.fault(Column.PAUSES, "what has started has no parts any more; write what is done as a row that "
+                            "has finished, and the rest as one of its own")
         if self.crews.calendar.changes():
             raise row.fault(Column.PAUSES, "where clocks change shifts are not of one length; leave out --zone")
         [shift] = lengths
         count = -(-duration // shift)
-        found = Cut(row, [f"{row.cell(Column.NAME)} ({number} of {count})" for number in range(1, count + 1)], crew, shift)
+        names = [f"{row.cell(Column.NAME)} ({number} of {count})" for number in range(1, count + 1)]
+        found = Cut(row, names, crew, shift)
         self.found.append(found)
         return [part(found, number, min(shift, duration - shift * number)) for number in range(count)]
 
@@ -101,7 +102,8 @@ class Cuts:
     def name(self, activities: Activities) -> None:
         """A lag to a row that was cut is tied to its first part or to its last one."""
         for one in self.found:
-            first, name, id_ = activities.names.get(one.parts[0]), one.row.cell(Column.NAME), one.row.cell(Column.ID).casefold()
+            first, name = activities.names.get(one.parts[0]), one.row.cell(Column.NAME)
+            id_ = one.row.cell(Column.ID).casefold()
             if first is not None:
                 activities.lasts[first] = activities.names[one.parts[-1]]
                 activities.names = {name: first} | activities.names
@@ -125,11 +127,12 @@ class Cuts:
 
 
 def part(cut: Cut, number: int, periods: int) -> Row:
-    """One part: the lags and dates of the row's start are those of the first, the dates of its end those of the last."""
+    """The lags and dates of the row's start are those of the first part, the dates of its end those of the last."""
     row, scale = cut.row, cut.row.terms.scale
     unit = {Unit.MINUTES: "min", Unit.DAYS: "d", Unit.WEEKS: "w"}.get(scale.period, "periods")
     length = periods * scale.minutes if scale.period is Unit.MINUTES else periods
     texts = {Column.NAME: cut.parts[number], Column.DURATION: f"{length} {unit}", Column.PAUSES: ""}
     texts |= {Column.ID: f"{row.cell(Column.ID)}/{number + 1}"} if row.cell(Column.ID) else {}
-    texts |= {column: "" for column in (*(OF_FIRST if number else ()), *(OF_LAST if number + 1 < len(cut.parts) else ()))}
+    others = (*(OF_FIRST if number else ()), *(OF_LAST if number + 1 < len(cut.parts) else ()))
+    texts |= {column: "" for column in others}
     return row.with_texts(texts)

@@ -1,4 +1,4 @@
-"""A schedule in a spreadsheet file (.xlsx): dates and floats in the planner's own sheet, and a second sheet that is a chart."""
+"""A schedule in a spreadsheet file (.xlsx): dates and floats in the planner's own sheet, and one that is a chart."""
 import io
 import os
 import zipfile
@@ -29,7 +29,7 @@ HEADS = {  # what is written, and what its column may be called already; the fir
 GERMAN = {"start": "Anfang", "end": "Ende", "free float": "freier Puffer", "total float": "Gesamtpuffer",
           "critical": "kritisch", "late": "verspätet"}
 GERMAN_HEADS = {"dauer", "vorgang", "vorgangsname", "tage", "stunden"}
-LOST = ("xl/charts/", "xl/media/", "xl/pivotTables/", "xl/vbaProject", "xl/slicers/", "xl/comments", "xl/threadedComments")
+LOST = ("xl/charts/", "xl/media/", "xl/pivotTables/", "xl/vbaProject", "xl/slicers/", "xl/threadedComments")
 WIDTH = 18  # of a new column, in signs
 
 
@@ -45,7 +45,8 @@ class Filled:
     def names(self) -> list[str]:
         """Of the columns."""
         due, total = self.opened.project.due, self.total
-        return [name for name in HEADS if (name != "late" or due) and (name not in ("total float", "critical") or total)]
+        is_there = {"late": bool(due), "total float": bool(total), "critical": bool(total)}
+        return [name for name in HEADS if is_there.get(name, True)]
 
     def value(self, name: str, activities: list[int]) -> object:
         """Of a row, which has several activities where it may pause."""
@@ -97,7 +98,8 @@ def write(filled: Filled, out: str) -> list[str]:
     made = io.BytesIO()
     book.save(made)
     write_whole(out, made.getvalue())
-    return [f"{out} has no {what} of {opened.path}, which openpyxl does not keep" for what in lost(data, made.getvalue())]
+    return [f"{out} has no {what} of {opened.path}, which openpyxl does not keep"
+            for what in lost(data, made.getvalue())]
 
 
 def source_of(opened: ProjectFile) -> str | None:
@@ -180,4 +182,5 @@ def must_be_ours(out: str) -> None:
     if there.strip():
         book = workbook(there, out, read_only=True) if there.startswith(SPREADSHEET) else None
         if book is None or not workbook_chart.is_ours(book):
-            raise BadInput(f"{out} is there, and was not written by plan, and would be lost; name another file with --out")
+            raise BadInput(f"{out} is there, and was not written by plan, and would be lost; name another file with "
+                           "--out")

@@ -68,7 +68,8 @@ def draw(book: Any, opened: ProjectFile, starts: tuple[int, ...], total: TotalFl
     if is_ours(book):
         del book[TITLE]
     critical = total.critical() if total is not None else ()
-    shown = drawing.make(opened, starts, title, (), drawing.Known(critical=critical, started=[*opened.progress.started]))
+    known = drawing.Known(critical=critical, started=[*opened.progress.started])
+    shown = drawing.make(opened, starts, title, (), known)
     sheet, scale = book.create_sheet(TITLE), Scale(shown)
     put(sheet.cell(1, 1), title)
     ruler(sheet, scale)

@@ -1,5 +1,8 @@
-"""What the arguments say of a project: its file, its page of names, and its settings."""
+"""Arguments of several commands: the project with its settings, the limits of a search, and what it begins with."""
 import argparse
+import os
+import re
+from collections.abc import Callable
 from dataclasses import fields
 from typing import TYPE_CHECKING
 
@@ -7,7 +10,28 @@ from ..dates import ORDERS
 from .settings import GOALS, Settings, checked
 
 if TYPE_CHECKING:
+    from .beginning import Start
     from .project_file import ProjectFile
+
+SECONDS, MOST_SECONDS = 60.0, 1_000_000
+MOST_JOBS = 64  # of psprove
+PROCESSORS = min(len(os.sched_getaffinity(0)), MOST_JOBS)
+
+
+def number(least: int, most: int) -> Callable[[str], int]:
+    """What reads a whole number in digits, from the least to the most."""
+    def read_number(text: str) -> int:
+        if not re.fullmatch("-?[0-9]{1,9}", text) or not least <= int(text) <= most:
+            raise argparse.ArgumentTypeError(f"'{text}' is not a whole number from {least} to {most}")
+        return int(text)
+    return read_number
+
+
+def seconds(text: str) -> float:
+    """A number of seconds, which may be less than one."""
+    if not re.fullmatch(r"[0-9]{1,7}(\.[0-9]{1,3})?", text) or not 0 < float(text) <= MOST_SECONDS:
+        raise argparse.ArgumentTypeError(f"'{text}' is not a number of seconds above 0 and up to {MOST_SECONDS}")
+    return float(text)
 
 
 def add_project(one: argparse.ArgumentParser) -> None:
@@ -43,3 +67,25 @@ def add_settings(one: argparse.ArgumentParser) -> None:
 
 def settings(options: argparse.Namespace) -> Settings:
     return checked(Settings(**{field.name: getattr(options, field.name) for field in fields(Settings)}))
+
+
+def add_limits(one: argparse.ArgumentParser) -> None:
+    one.add_argument("--seconds", type=seconds, default=SECONDS, metavar="S", help="stop after S seconds (default 60)")
+    one.add_argument("--jobs", type=number(1, MOST_JOBS), default=PROCESSORS, metavar="N",
+                     help="run N searches side by side (default: the number of processors)")
+
+
+def add_start(one: argparse.ArgumentParser) -> None:
+    one.add_argument("--start", metavar="ANSWER", help="start from this schedule")
+    one.add_argument("--frozen", metavar="DAY", help="keep what starts before this day or period in --start")
+
+
+def start(options: argparse.Namespace) -> "Start":
+    from .beginning import Start
+    return Start(options.start, options.frozen)
+
+
+def add_schedule(one: argparse.ArgumentParser) -> None:
+    add_project(one)
+    one.add_argument("answer", metavar="ANSWER", nargs="?",
+                     help="an answer of plan, psmax or psprove, or starts (default: standard input)")
