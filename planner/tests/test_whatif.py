@@ -49,6 +49,41 @@ class WhatIf(InFolder):
         self.assertRegex(ran.stdout, r"^As it is: (feasible \d+|unknown) bound \d+\.\n")
         self.assertNotIn("which is proved", ran.stdout)
 
+    def test_as_planners_say_it(self) -> None:
+        """By hand: 3, 2 and 4 days on one crane from Monday on, which is away on Thursday and Friday, end on Monday 16 March.
+        With work on Saturdays 3 days come before that, and 6 from Saturday 7 on end on Friday 13. Two cranes, of which one is
+        away then, have 8 days of work in the first week, and 9 are needed. A row of one day in place of 4 ends on Wednesday.
+        Without the absence it is Thursday 12, and with one day less and Saturdays besides the eighth day of work."""
+        self.file("away.csv", "resource,from,to,units\ncrane,2026-03-05,2026-03-06,\n")
+        table = self.file("p.csv", "from,2026-03-02\nworkdays,Mo-Fr\nabsences,away.csv\nID,activity,days,crane (1)\n"
+                          "7,a,3,1\n8,b,2,1\n9,c,4,1\n")
+        changes = {"saturdays": "Fri 2026-03-13 (11 days), 3 days sooner",
+                   "crane +1": "Mon 2026-03-09 (6 days), 7 days sooner", "9 1 d": "Wed 2026-03-11 (8 days), 5 days sooner",
+                   "drop absence Crane": "Thu 2026-03-12 (9 days), 4 days sooner",
+                   "ohne Abwesenheiten crane; c -1 d; samstags": "Tue 2026-03-10 (8 days), 6 days sooner"}
+        ran = plan("whatif", table, *changes, "--jobs", "1")
+        wide = max(map(len, changes))
+        self.assertEqual((ran.returncode, ran.stdout.splitlines()), (0, [
+            f"{'as it is':{wide}}  optimal, ends Mon 2026-03-16 (11 days)",
+            *(f"{change:{wide}}  optimal, ends {told}" for change, told in changes.items())]), ran.stderr)
+        out = self.folder / "changes.csv"
+        self.assertEqual(plan("whatif", table, "crane +1", "--jobs", "1", "--out", out).returncode, 0)
+        rows = [line.split(",")[:5] for line in out.read_text().splitlines()]
+        self.assertEqual(rows, [["change", "status", "ends", "makespan", "bound"],
+                                ["as it is", "optimal", "2026-03-16", "11", "11"],
+                                ["crane +1", "optimal", "2026-03-09", "6", "6"]])
+
+    def test_changes_that_are_none(self) -> None:
+        table = self.file("p.csv", "from,2026-03-02\nworkdays,mon-fri\nactivity,days,crane (1)\na,3,1\n")
+        for change, told in (("mondays", "that day has work already"), ("crain +1", "did you mean 'crane'?"),
+                             ("crane -2", "there are 1 of it"), ("a -4 d", "it takes '3'"),
+                             ("drop absence crane", "no absence of"), ("shift 6-22", "shift 6-22: not hours"),
+                             ("more cranes", "no change that plan knows, which is such")):
+            with self.subTest(change):
+                self.refused(plan("whatif", table, change), 2, told)
+        text = self.file("two.sch", TWO_JOBS)
+        self.refused(plan("whatif", text, "workdays mon-sat"), 2, "is no table")
+
     def test_faults(self) -> None:
         self.refused(plan("whatif", self.file("bad.sch", "x")), 2, "bad.sch: word 0")
         project = self.file("p.sch", TWO_JOBS)

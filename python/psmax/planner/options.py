@@ -315,6 +315,9 @@ def run_why(options: argparse.Namespace) -> int:
 
 def add_whatif(one: argparse.ArgumentParser) -> None:
     add_project(one)
+    one.add_argument("changes", metavar="CHANGE", nargs="*", help="a change, or some with ';' between them, such as "
+                     "'sundays', 'shift 06:00-22:00', 'crew +2', 'weld hanger -2 d' or 'drop absence crane' (default: all that "
+                     "plan tries)")
     add_limits(one)
     add_table(one)
     one.set_defaults(run=run_whatif)
@@ -322,6 +325,8 @@ def add_whatif(one: argparse.ArgumentParser) -> None:
 
 def run_whatif(options: argparse.Namespace) -> int:
     from . import whatif
+    if options.changes:
+        return whatif.asked(opened(options), options.changes, options.seconds, options.jobs, table(options))
     return whatif.whatif(opened(options), options.seconds, options.jobs, table(options))
 
 

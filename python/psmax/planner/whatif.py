@@ -1,19 +1,28 @@
-"""`plan whatif`: what one unit more of a resource, one absence less, or a maximum lag loosened or dropped gives, proved by
-psprove."""
+"""`plan whatif`: what changes give that the planner names; or one unit more of a resource, one absence less, or a maximum
+lag loosened or dropped. psprove proves each."""
+import datetime
+from collections.abc import Sequence
+from concurrent.futures import ThreadPoolExecutor
+
+from ..calendars import DAY
 from ..call_files import lose_none
 from ..clock import Clock
 from ..incumbent import Incumbent
+from ..outcome import Solved
 from ..project import Goal
-from ..psprove import Psprove
+from ..psprove import Limits, Psprove
 from ..whatif import Change, ChangeKind, Outcome
 from ..whatif import whatif as searched
 from .csv_text import Text
 from .headline import headline
 from .project_file import ProjectFile
 from .beginning import Start, begin_with
+from .scenarios import Scenario
+from .solve import ends
 from .wording import Words, are
 from .write import Sheet
 
+SCENARIO_HEADS = ["change", "status", "ends", "makespan", "bound", "seconds"]
 HEADS = ["kind", "change", "status", "makespan", "bound", "shorter", "seconds"]
 
 
@@ -45,6 +54,54 @@ def whatif(opened: ProjectFile, seconds: float, jobs: int, sheet: Sheet) -> int:
     else:
         print(*text(base, outcomes, words), sep="\n")
     return 0 if base.settled and all(one.known.settled for one in outcomes) else 3
+
+
+def asked(opened: ProjectFile, changes: Sequence[str], seconds: float, jobs: int, sheet: Sheet) -> int:
+    """What changes give that the planner names."""
+    lose_none(opened.inputs(), [sheet.out])
+    sheet.must_have(SCENARIO_HEADS)
+    begin_with(opened, Start(None, None))
+    files = [opened, *(Scenario(opened, one).project() for one in changes)]
+    clock = Clock(seconds)
+    clock.listen()
+
+    def known(place: int) -> tuple[Solved, float]:
+        """By one job beside others, in its share of the time that is left."""
+        psprove, begun, left = Psprove(clock, opened.path), clock.elapsed(), clock.left()
+        answer = psprove.ask(files[place].project, Limits(min(left, left * jobs / (len(files) - place))))
+        return answer, clock.elapsed() - begun
+
+    with ThreadPoolExecutor(jobs) as pool:
+        found = [*pool.map(known, range(len(files)))]
+    names = ["as it is", *changes]
+    if sheet.out is not None:
+        rows = [[Text(name), one.status(), ends(file, one.starts) or "", *("" if value is None else value for value in
+                 (one.value, one.bound)), f"{took:.2f}"] for name, file, (one, took) in zip(names, files, found)]
+        sheet.put([[*SCENARIO_HEADS], *rows], opened)
+    else:
+        told = [headline(file, one, one.starts)[0] + moved(files[0], found[0][0], file, one)
+                for file, (one, _) in zip(files, found)]
+        wide = max(map(len, names))
+        print(*(f"{name:{wide}}  {line}" for name, line in zip(names, told)), sep="\n")
+    return 0 if all(one.settled for one, _ in found) else 3
+
+
+def moved(was: ProjectFile, before: Solved, file: ProjectFile, one: Solved) -> str:
+    """How much sooner or later the project ends, by the clock, where there are dates."""
+    first, last = end_of(was, before), end_of(file, one)
+    if first is None or last is None or one is before:
+        return ""
+    days = (first - last) / DAY
+    many = f"{abs(days):g} days" if days == int(days) else f"{abs(24 * days):g} h"
+    return f", {many} {'sooner' if days > 0 else 'later'}" if days else ", the same"
+
+
+def end_of(file: ProjectFile, known: Solved) -> datetime.datetime | None:
+    """When the last activity ends, where there are dates and a schedule."""
+    if file.calendar is None or known.starts is None:
+        return None
+    last = max([0, *file.project.ends(known.starts)])
+    return file.calendar.span(last, last)[1]
 
 
 def text(base: Incumbent, outcomes: list[Outcome], words: Words) -> list[str]:
