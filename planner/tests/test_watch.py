@@ -140,6 +140,20 @@ class Orders(Watches):
         self.assertEqual(watch.order("stop"), (200, "Nothing is searched any more."))
         self.assertIn("feasible 9 bound 6.", watch.until(done())["line"])
 
+    def test_a_change_is_tried(self) -> None:
+        """By hand: on two cranes the longer job alone says how long it takes. The plan stays."""
+        watch = self.watching(TWO)
+        version = watch.until(done("optimal 7"))["version"]
+        place = f"{urlsplit(watch.address).path}whatif"
+        tried = [watch.ask("POST", place, json.dumps(text)) for text in ("crane +1", "b -4 d", "crew +1")]
+        self.assertEqual(tried[:2], [(200, b"crane +1: optimal 4"), (200, b"b -4 d: optimal 3")])
+        self.assertEqual((tried[2][0], tried[2][1][:37]), (409, b"'crew +1': no change that plan knows,"))
+        for body in ("7", '""', json.dumps("x" * 201), '["x"]', '"a\\u0000"'):
+            self.assertEqual(watch.ask("POST", place, body), (403, b"refused"))
+        state = watch.state()
+        assert state is not None
+        self.assertEqual((state["version"], state["busy"]), (version, False))
+
     def test_keep(self) -> None:
         """What is kept is a plan with its proof, beside the table, and nothing takes its place."""
         watch = self.watching(TWO)

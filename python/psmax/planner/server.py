@@ -13,7 +13,6 @@ from socketserver import TCPServer
 from typing import Any
 from urllib.parse import parse_qs
 
-from ..errors import BadInput, Failed
 from .faults import explained
 from .page import Page
 from .headline import headline
@@ -30,6 +29,8 @@ HEADS = {
     "Cross-Origin-Opener-Policy": "same-origin",
 }
 Order = Callable[[str, int], str]  # what is done at a word and a number, and what is said of it
+Try = Callable[[str], str]  # what is said of a change of the plan, which is tried beside all else
+LONGEST = 200  # signs of a change
 KINDS = ("later", "earlier", "new", "gone")  # of moves, as the page lists them
 
 
@@ -70,12 +71,21 @@ def drawn(plan: Plan, zoom: float) -> dict[str, Any]:
             "moved": [one for one in lists if one[1]], "shortest": plan.settled and not plan.none}
 
 
+def change_in(body: bytes) -> str:
+    """The text of a body in JSON; empty where it is none."""
+    try:
+        told = json.loads(body)
+    except (ValueError, RecursionError):
+        return ""
+    return told.strip() if isinstance(told, str) and told.isprintable() and len(told) <= LONGEST else ""
+
+
 class Server(ThreadingHTTPServer):
     daemon_threads, block_on_close = True, False
 
-    def __init__(self, port: int, screen: Screen, page: bytes, order: Order) -> None:
+    def __init__(self, port: int, screen: Screen, page: bytes, order: Order, change: Try) -> None:
         super().__init__((HOST, port), Handler)
-        self.screen, self.page, self.order = screen, page, order
+        self.screen, self.page, self.order, self.change = screen, page, order, change
         self.token = secrets.token_urlsafe(24)
         self.host = f"{HOST}:{self.server_address[1]}"
         self.address = f"http://{self.host}/{self.token}/"
@@ -106,15 +116,17 @@ class Handler(BaseHTTPRequestHandler):
 
     def do_POST(self) -> None:
         name, _ = self.asked()
-        if name not in ("keep", "stop", "back") or "Origin" not in self.headers:
+        if name not in ("keep", "stop", "back", "whatif") or "Origin" not in self.headers:
             return self.refuse()
-        number = NUMBER.fullmatch(self.body())
-        if number is None:
+        body = self.body()
+        number, change = NUMBER.fullmatch(body), change_in(body)
+        if not change if name == "whatif" else number is None:
             return self.refuse()
         try:
-            self.reply(200, self.server.order(name, int(number[1])).encode())
-        except (BadInput, Failed) as fault:
-            self.reply(409, f"{fault}".encode())
+            said = self.server.order(name, int(number[1])) if number is not None else self.server.change(change)
+        except Exception as fault:
+            return self.reply(409, "; ".join(explained(fault)[1]).encode("utf-8", "replace"))
+        self.reply(200, said.encode("utf-8", "replace"))
 
     def body(self) -> bytes:
         """All of it; empty where it is too long, or doesn't say first how long it is."""

@@ -125,6 +125,8 @@ async function order(name, number) {
 }
 
 for (const name of ["keep", "stop"]) byId(name).addEventListener("click", () => order(name, 0));
+byId("try").addEventListener("click", () => order("whatif", byId("change").value));
+byId("change").addEventListener("keydown", (event) => { if (event.key === "Enter") byId("try").click(); });
 byId("back").addEventListener("click", () => order("back", Number(byId("plans").value)));
 byId("print").addEventListener("click", () => print());
 byId("in").addEventListener("click", () => zoomed(watch.zoom * 2));

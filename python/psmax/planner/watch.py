@@ -33,6 +33,7 @@ from .project_file import ProjectFile, open_project
 from .screen import Screen
 from .server import Server
 from .settings import Settings
+from .whatif import tried
 
 GLANCE = 0.1  # seconds from one look at the files to the next
 ANSWERS = 120.0  # seconds that an order may take
@@ -132,6 +133,13 @@ class Watch:
         self.orders.put((name, number, reply))
         return reply.result(ANSWERS)
 
+    def change(self, text: str) -> str:
+        """What a change gives of the plan on the screen, as `plan whatif` says it. The search goes on beside."""
+        plan = self.screen.plan()
+        if plan is None:
+            raise BadInput("nothing is planned yet")
+        return f"{text}: {tried(plan.opened, plan.starts, text, self.options.seconds)}"
+
     def stop(self) -> str:
         """Ends the search, whose record is whole then."""
         if self.search is not None:
@@ -205,7 +213,7 @@ def watch(path: str, settings: Settings, start: Start, options: Options) -> int:
 
 def serve(watching: Watch) -> None:
     try:
-        server = Server(watching.options.port, watching.screen, page(watching.path), watching.order)
+        server = Server(watching.options.port, watching.screen, page(watching.path), watching.order, watching.change)
     except OSError as fault:
         raise Failed(f"port {watching.options.port}: {fault.strerror}") from None
     thread = threading.Thread(target=server.serve_forever, args=(GLANCE,), daemon=True)

@@ -79,28 +79,36 @@ def asked(opened: ProjectFile, changes: Sequence[str], seconds: float, jobs: int
                  (one.value, one.bound)), f"{took:.2f}"] for name, file, (one, took) in zip(names, files, found)]
         sheet.put([[*SCENARIO_HEADS], *rows], opened)
     else:
-        told = [headline(file, one, one.starts)[0] + moved(files[0], found[0][0], file, one)
+        before = found[0][0].starts
+        told = [headline(file, one, one.starts)[0] + (moved(opened, before, file, one.starts) if file is not opened else "")
                 for file, (one, _) in zip(files, found)]
         wide = max(map(len, names))
         print(*(f"{name:{wide}}  {line}" for name, line in zip(names, told)), sep="\n")
     return 0 if all(one.settled for one, _ in found) else 3
 
 
-def moved(was: ProjectFile, before: Solved, file: ProjectFile, one: Solved) -> str:
+def tried(opened: ProjectFile, starts: Sequence[int] | None, change: str, seconds: float) -> str:
+    """What a change gives beside a plan that is known."""
+    file = Scenario(opened, change).project()
+    one = Psprove(Clock(seconds), opened.path).ask(file.project, Limits(seconds))
+    return headline(file, one, one.starts)[0] + moved(opened, starts, file, one.starts)
+
+
+def moved(was: ProjectFile, before: Sequence[int] | None, file: ProjectFile, after: Sequence[int] | None) -> str:
     """How much sooner or later the project ends, by the clock, where there are dates."""
-    first, last = end_of(was, before), end_of(file, one)
-    if first is None or last is None or one is before:
+    first, last = end_of(was, before), end_of(file, after)
+    if first is None or last is None:
         return ""
     days = (first - last) / DAY
     many = f"{abs(days):g} days" if days == int(days) else f"{abs(24 * days):g} h"
     return f", {many} {'sooner' if days > 0 else 'later'}" if days else ", the same"
 
 
-def end_of(file: ProjectFile, known: Solved) -> datetime.datetime | None:
+def end_of(file: ProjectFile, starts: Sequence[int] | None) -> datetime.datetime | None:
     """When the last activity ends, where there are dates and a schedule."""
-    if file.calendar is None or known.starts is None:
+    if file.calendar is None or starts is None:
         return None
-    last = max([0, *file.project.ends(known.starts)])
+    last = max([0, *file.project.ends([*starts])])
     return file.calendar.span(last, last)[1]
 
 
