@@ -150,7 +150,7 @@ class AllStarts(InFolder):
     def test_all_starts(self) -> None:
         """The least makespan of all starts is the answer, and its record proves it; where none fits there is no schedule."""
         words = ("--from", f"{FIRST}", "--workdays", "mon-fri", "--holidays", self.file("off.txt", f"{OFF}\n"))
-        for seed in range(25):
+        for seed in range(12):
             drawn, record = Drawn(seed), self.folder / "rec"
             least = min(drawn.makespans(), default=None)
             table = self.file("p.csv", drawn.table())

@@ -133,6 +133,22 @@ class Following(Watches):
         self.assertIn("feasible 9 bound 6. The search goes on.", state["line"])
 
 
+class Halves(Watches):
+    def test_half_a_table(self) -> None:
+        """It waits for another save, and the plan stays; what is saved twice is meant."""
+        watch = self.watching(TWO)
+        watch.until(done("optimal 7"))
+        for text, told, value in ((TWO[:-1], "the last row has no end", 7), (TWO[:24], "1 rows are left of 3", None)):
+            state = watch.saved(text, lambda state: state["faults"])
+            self.assertEqual(state["faults"], [f"{watch.table}: {told}, so it may be half saved; save it once more to plan it"])
+            self.assertIn("optimal 7", state["line"])
+            if value is not None:
+                watch.saved(text, lambda state: not state["faults"] and done(f"optimal {value}")(state))
+                watch.saved(TWO, done("optimal 7"))
+            else:
+                watch.saved(text, lambda state: "no activity stands below row 1" in f"{state['faults']}")
+
+
 class Orders(Watches):
     def test_stop(self) -> None:
         watch = self.watching(TWO, psprove=self.stand_in(tells=TELLS, then="waits"))
@@ -162,8 +178,8 @@ class Orders(Watches):
             status, text = watch.order("keep")
             self.assertEqual((status, text[:6]), (200, "Kept: "))
         names = self.names()
-        self.assertEqual(len(names), 10)
-        stems = {name.rpartition(".")[0] for name in names} - {"p"}
+        self.assertEqual(len(names), 13)
+        stems = {name.rpartition(".")[0].removesuffix("-table") for name in names} - {"p"}
         self.assertEqual(len(stems), 3)
         for stem in stems:
             self.assertRegex(stem, r"p-\d{4}-\d\d-\d\d-\d{6}(-\d)?")
@@ -171,6 +187,7 @@ class Orders(Watches):
             self.assertEqual(plan("check", watch.table, answer).stdout, "feasible 7\n")
             self.assertIn("shorter than 7, and has one that long.", plan("verify", watch.table, record).stdout)
             self.assertIn("is shorter than 7, and has one", (self.folder / f"{stem}.html").read_text())
+            self.assertEqual((self.folder / f"{stem}-table.csv").read_text(), TWO)
         self.assertEqual(watch.end()[:2], (0, ""))
         self.assertEqual(self.names(), names)
 
@@ -193,7 +210,7 @@ class Orders(Watches):
         watch.until(done("optimal 7"))
         status, out, told = watch.end()
         self.assertEqual((status, told), (0, ""))
-        found = re.fullmatch(r"Kept: (.*)\.csv, \1\.record, \1\.html\n", out)
+        found = re.fullmatch(r"Kept: (.*)\.csv, \1\.record, \1\.html, \1-table\.csv\n", out)
         assert found is not None
         self.assertEqual(plan("check", watch.table, f"{found[1]}.csv").stdout, "feasible 7\n")
         self.assertEqual(record.read_bytes(), pathlib.Path(f"{found[1]}.record").read_bytes())
@@ -203,8 +220,8 @@ class Orders(Watches):
         watch.until(lambda state: "feasible 12 bound 4" in state["line"])
         watch.child.send_signal(signal.SIGTERM)
         out, told = watch.child.communicate(timeout=60)
-        self.assertRegex(out, r"^Kept: \S+\.csv, \S+\.html\n$", told)
-        [answer] = self.folder.glob("p-*.csv")
+        self.assertRegex(out, r"^Kept: \S+\.csv, \S+\.html, \S+-table\.csv\n$", told)
+        [answer] = self.folder.glob("p-*[0-9].csv")
         self.assertEqual(plan("check", watch.table, answer).stdout, "feasible 12\n")
         self.assertEqual([*self.folder.glob("p-*.record")], [], "what the stand-in writes proves nothing")
 
@@ -319,7 +336,7 @@ class Ends(Watches):
         self.assertEqual([*kept.iterdir()], [])
         ran = subprocess.run(["ps", "-eo", "args"], capture_output=True, text=True)
         self.assertNotIn(str(kept), ran.stdout)
-        [answer] = self.folder.glob("hard-*.csv")
+        [answer] = self.folder.glob("hard-*[0-9].csv")
         self.assertTrue(plan("check", table, answer).stdout.startswith("feasible "))
 
 

@@ -16,8 +16,8 @@ HEAD = "activity,days,crane (1)\n"
 
 
 def table(chance: random.Random) -> str:
-    """Jobs for one crane, so the sum of their days is the makespan."""
-    return HEAD + "".join(f"job {job},{chance.randint(1, 40)},1\n" for job in range(1, chance.randint(5, 20)))
+    """Jobs for one crane, so the sum of their days is the makespan. No table has less than half the rows of another."""
+    return HEAD + "".join(f"job {job},{chance.randint(1, 40)},1\n" for job in range(1, chance.randint(11, 20)))
 
 
 def makespan(text: str) -> int | None:

@@ -110,8 +110,8 @@ class Plan(Claim):
 
 
 def keep(plan: Plan | None) -> list[str]:
-    """Writes the answer, the record and the page beside the table, with the time in their names, which it returns. What
-    they hold is judged first: the schedule by psmax, and the record by `verify`."""
+    """Writes the answer, the record, the page and a copy of the table beside that, with the time in their names, which it
+    returns. What they hold is judged first: the schedule by psmax, and the record by `verify`."""
     if plan is None or plan.starts is None:
         raise BadInput("there is no plan on the screen")
     base = f"{os.path.splitext(plan.opened.path)[0]}-{datetime.datetime.now():%Y-%m-%d-%H%M%S}"
@@ -138,4 +138,4 @@ def contents(plan: Plan, stem: str) -> dict[str, bytes]:
     view = View(opened, starts, proof(answer, found), found is not None and found.bound == answer.value,
                 plan.windows or windows(opened.project, starts, psmax), plan.total, headline=headline_of(answer, found, opened),
                 digest=digest(found))
-    return files | {f"{stem}.html": page_of(view, "A4")}
+    return files | {f"{stem}.html": page_of(view, "A4"), f"{stem}-table.csv": opened.text.encode()}

@@ -16,7 +16,7 @@ from dataclasses import dataclass
 from ..call_files import lose_none, must_be_like
 from ..clock import Clock
 from ..errors import BadInput, Failed, Fault
-from ..files import DASH, Saves, read_bytes, read_text
+from ..files import BLANKS, DASH, SPREADSHEET, Saves, read_bytes, read_text
 from ..project_text import ProjectText
 from ..record import BEGIN
 from .above import read_above
@@ -51,6 +51,28 @@ class Options:
     is_opened: bool  # in a browser
 
 
+@dataclass(frozen=True)
+class Save:
+    """What shows whether a table was saved whole: its rows, and whether the last one has an end."""
+
+    rows: int = 0
+    has_end: bool = False
+
+    def why_half(self, before: "Save") -> str:
+        """Why it may not be; nothing where it is like the one before."""
+        if 2 * self.rows < before.rows:
+            return f"{self.rows} rows are left of {before.rows}"
+        return "the last row has no end" if before.has_end and not self.has_end else ""
+
+
+def read_save(path: str) -> Save:
+    """Of a text; a spreadsheet file that is cut can't be read."""
+    data = read_bytes(path)
+    if data.startswith(SPREADSHEET):
+        return Save()
+    return Save(sum(bool(line.strip(BLANKS)) for line in data.splitlines()), data.endswith(b"\n"))
+
+
 class Watch:
     """All that changes the plan is done by one thread, in turn: saves that are seen, and orders of the page."""
 
@@ -63,6 +85,8 @@ class Watch:
         self.first = None if start.answer is None else read_answer(start.answer).must_have_starts()
         self.sources = {path}  # the table, and what it names
         self.kept = 0  # the number of the plan that was kept last
+        self.whole = Save()  # the last one that was planned from, or that had a fault
+        self.is_held = False  # whether a save waits for another one, since it may be half a table
 
     def run(self) -> None:
         """Until what ends a run stops the clock."""
@@ -74,6 +98,12 @@ class Watch:
     def read(self) -> None:
         """The table as it stands. With a fault the last plan stays, and so does its search."""
         try:
+            save = read_save(self.path)
+            why = "" if self.is_held else save.why_half(self.whole)
+            self.is_held = bool(why)
+            if why:
+                return self.screen.tell((f"{self.path}: {why}, so it may be half saved; save it once more to plan it",))
+            self.whole = save
             self.sources |= named_in(self.path, self.settings)
             opened = open_project(self.path, self.settings)
             if opened.table is None:
