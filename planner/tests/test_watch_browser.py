@@ -120,7 +120,7 @@ class InBrowser(Watches):
         self.done("optimal 7")
         self.click("keep")
         self.until_text("said", "Kept: ", ".csv", ".record", ".html")
-        [answer] = self.folder.glob("p-*.csv")
+        [answer] = self.folder.glob("p-*[0-9].csv")
         self.assertEqual(plan("check", watch.table, answer).stdout, "feasible 7\n")
         watch.table.write_text(TWO.replace("b,4", "b,6"))
         self.done("optimal 9")
