@@ -133,6 +133,16 @@ class Following(Watches):
         self.assertIn("feasible 9 bound 6. The search goes on.", state["line"])
 
 
+class Signs(Watches):
+    def test_a_save_is_seen_before_a_search_ends(self) -> None:
+        """This one has to be killed, five seconds after it is asked to end."""
+        watch = self.watching(TWO, psprove=self.stand_in(tells=TELLS, then="sticks"))
+        watch.until(lambda state: "feasible 9 bound 6" in state["line"])
+        begun = time.monotonic()
+        watch.saved(TWO.replace("b,4", "b,6"), lambda state: "stays until there is one" in state["line"])
+        self.assertLess(time.monotonic() - begun, 4)
+
+
 class Halves(Watches):
     def test_half_a_table(self) -> None:
         """It waits for another save, and the plan stays; what is saved twice is meant."""

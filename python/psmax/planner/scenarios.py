@@ -1,4 +1,4 @@
-"""Changes of a project as planners say them: sundays, shift 06:00-22:00, crew +2, weld hanger -2 d, drop absence crane."""
+"""Changes of a project as planners say them: sundays, shift 06:00-22:00, crew +2, weld -2 d, drop absence crane."""
 import os
 import re
 from collections.abc import Callable
@@ -46,7 +46,8 @@ class Scenario:
             if not any(read(part.strip()) for read in kinds):
                 named = [*self.opened.names.resources, *self.opened.names.activities.values()]
                 name = UNITS.sub(r"\1", part.strip())
-                raise self.fault(part, f"no change that plan knows, which is such as {EXAMPLES}{did_you_mean(name, named)}")
+                raise self.fault(part, f"no change that plan knows, which is such as {EXAMPLES}"
+                                 f"{did_you_mean(name, named)}")
         return self.with_units(self.read_again() if self.settings or self.durations else self.opened)
 
     def fault(self, part: str, text: str) -> BadInput:
@@ -100,7 +101,8 @@ class Scenario:
         for place, name in rows_by_name(self.sheet(), table):
             found = LENGTH.fullmatch(part[len(name) :].strip())
             if part.casefold().startswith(name.casefold() + " ") and found is not None:
-                self.durations[place] = self.duration(part, cell(self.sheet().rows[place], self.column(table)), *found.groups())
+                before = cell(self.sheet().rows[place], self.column(table))
+                self.durations[place] = self.duration(part, before, *found.groups())
                 return True
         return False
 
@@ -157,11 +159,12 @@ class Scenario:
 
 
 def rows_by_name(sheet: Sheet, table: Table) -> list[tuple[int, str]]:
-    """The rows by the names and the numbers that one of them alone has; the longest first, since one may begin another."""
+    """The rows by the names and the numbers that one of them alone has; the longest first, as one may begin another."""
     found: dict[str, list[int]] = {}
     for place, row in enumerate(sheet.rows):
         for column in (Column.NAME, Column.ID):
             text = cell(row, table.columns.places.get(column))
             if text:
                 found.setdefault(text, []).append(place)
-    return sorted(((places[0], name) for name, places in found.items() if len(places) == 1), key=lambda one: -len(one[1]))
+    single = [(places[0], name) for name, places in found.items() if len(places) == 1]
+    return sorted(single, key=lambda one: -len(one[1]))

@@ -134,16 +134,17 @@ class Watch:
             return anew
 
     def plan(self, opened: ProjectFile, beginning: Beginning, schedule: Schedule | None, given: AnswerText | None) -> None:
-        """Where the project is the same, the plan and its search stay, perhaps with other names or dates."""
+        """Where the project is the same, the plan and its search stay, perhaps with other names or dates. Else the page says so
+        first, since a search may take seconds to end."""
         now, notes = self.screen.plans.get(self.screen.latest), (*opened.notes, *beginning.told)
         if now is not None and now.project == beginning.project and now.opened.project == opened.project:
             is_told_so = schedule is None or schedule.told() == Schedule(opened, schedule.starts).told()
             self.screen.learn(self.screen.latest, opened=opened, before=now.before if is_told_so else schedule)
             return self.screen.tell(())
-        self.stop()
         number = self.screen.add(Plan(
             opened, beginning.project, f"{datetime.datetime.now():%H:%M:%S}", schedule, shadow(opened, given),
             opened.project.goal, None, ProjectText(beginning.project).value(0), notes=notes))
+        self.stop()
         limits = Limits(self.options.seconds, self.options.jobs, self.options.record)
         self.search = PlanSearch(self.screen, number, beginning, limits, self.folder)
         self.search.start()
