@@ -52,6 +52,20 @@ class ByHand(InFolder):
         table = self.file("q.csv", TABLE.replace("1,open", "horizon,2026-03-06\n1,open"))
         self.assertEqual(plan("check", table).returncode, 2)
 
+    def test_a_horizon_before_the_first_time_off(self) -> None:
+        """A crew of Monday to Friday, and a horizon on Thursday: nothing is known of what comes after that."""
+        table = self.file("p.csv", "from,2026-03-02\nhorizon,4\nactivity,days,crew (1; Mo-Fr),after\na,4,1,\nb,2,1,a\n")
+        ran = plan("solve", table, "--jobs", "1")
+        self.assertEqual((ran.returncode, ran.stdout[:14]), (3, "unknown bound "), ran.stderr)
+        ran = plan("solve", self.file("q.csv", table.read_text().replace("horizon,4\n", "")), "--jobs", "1")
+        self.assertEqual(ran.stdout.partition("\n")[0], "optimal 9", ran.stderr)
+
+    def test_many_parts(self) -> None:
+        """By hand: 150 hours are twelve shifts of 12 hours and 6 hours of the thirteenth, so 12 days and 6 hours."""
+        table = self.file("p.csv", 'from,2026-03-02 06:00\nactivity,hours,"crew (9, days)",may pause\nweld,150,1,yes\n')
+        ran = plan("solve", table, "--jobs", "1")
+        self.assertEqual(ran.stdout.partition("\n")[0], f"optimal {12 * 24 + 6}", ran.stderr)
+
     def test_one_unit_more_keeps_the_hours(self) -> None:
         """By hand: two jobs of a crew of one from 06:00 to 18:00, each of 8 hours, end on Tuesday 14:00, and side by side on
         Monday 14:00."""

@@ -78,6 +78,7 @@ class Project:
     dated: tuple["DatedLag", ...] = ()  # what some of the arcs, which every date allows, are on each date
     off: tuple[Off, ...] = ()  # the times outside the hours of resources, up to the horizon
     horizon: int | None = None  # up to which these are known: what needs such a resource has to end by then
+    crews: frozenset[int] = frozenset()  # the resources with hours, of which some may have no such time
 
     @property
     def end(self) -> int:
@@ -144,9 +145,8 @@ class Project:
         """What needs a resource with hours, and ends when these are not known any more."""
         if self.horizon is None:
             return []
-        crews = {one.resource for one in self.off}
         return [i for i in range(1, self.end) if starts[i] + self.durations[i] > self.horizon
-                and self.durations[i] and any(self.demands[i][k] for k in crews)]
+                and self.durations[i] and any(self.demands[i][k] for k in self.crews)]
 
 
 def in_order(project: Project, old: Mapping[int, int]) -> Project:
@@ -192,7 +192,8 @@ def without(project: Project, gone: Collection[Part]) -> Project:
                      if one.resource in kept and Part(Kind.ABSENCE, place) not in gone)
     capacities = tuple(project.capacities[k] for k in kept)
     off = tuple(one._replace(resource=kept.index(one.resource)) for one in project.off if one.resource in kept)
-    return replace(with_arcs(project, arcs), demands=demands, capacities=capacities, absences=absences, off=off)
+    crews = frozenset(kept.index(k) for k in project.crews if k in kept)
+    return replace(with_arcs(project, arcs), demands=demands, capacities=capacities, absences=absences, off=off, crews=crews)
 
 
 def with_lag(project: Project, place: int, lag: int) -> Project:

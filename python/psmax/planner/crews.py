@@ -104,7 +104,7 @@ def with_hours(project: Project, crews: Crews, wanted: int | None) -> Project:
 
 def cut_off(project: Project, crews: Crews, horizon: int) -> Project:
     try:
-        return replace(project, off=crews.off(horizon), horizon=horizon)
+        return replace(project, off=crews.off(horizon), horizon=horizon, crews=frozenset(crews.hours))
     except ValueError as fault:
         raise BadInput(f"hours of a resource: {fault}") from None
 

@@ -1,6 +1,7 @@
 """Rows that may pause: such an activity is cut into parts. Each but the last takes a whole shift of what it needs. The
 first one begins with a shift, and each other one with the next. That is a rule of the table, which lags say exactly."""
 from bisect import bisect_left
+from collections.abc import Sequence
 from contextlib import suppress
 from dataclasses import dataclass, field
 
@@ -109,6 +110,12 @@ class Cuts:
                 activities.names = {name: first} | activities.names
                 activities.ids = ({id_: first} if id_ else {}) | activities.ids
 
+    def order(self, names: dict[str, int]) -> list[Arc]:
+        """By which each part begins no sooner than a shift after the one before, wherever that is."""
+        steps = {one.crew: steps_between(self.shifts(one.crew)[1:-1]) for one in self.found}
+        return [Arc(names[first], names[last], min(steps[one.crew], default=one.shift)) for one in self.found
+                for first, last in zip(one.parts, one.parts[1:])]
+
     def lags(self, project: Project, names: dict[str, int]) -> tuple[list[Arc], list[DatedLag]]:
         """By which each part begins with the shift after that of the one before."""
         arcs, dated = list[Arc](), list[DatedLag]()
@@ -116,14 +123,19 @@ class Cuts:
             shifts = self.shifts(one.crew, project.horizon)
             if any(ends - begins != one.shift for begins, ends in shifts[1:-1]):
                 raise BadInput(f"{one.row.fault(Column.PAUSES, UNEQUAL)}")
-            begins = [begin for begin, end in shifts if end - begin == one.shift or end == shifts[-1][1]]
-            steps = {later - sooner for sooner, later in zip(begins, begins[1:])}
+            whole = [(begin, end) for begin, end in shifts if end - begin == one.shift or end == shifts[-1][1]]
+            begins, steps = [begin for begin, _ in whole], steps_between(whole)
             for first, last in zip(one.parts, one.parts[1:]):
                 arcs.append(Arc(names[first], names[last], min(steps)))
                 arcs.append(Arc(names[last], names[first], -max(steps)))
                 if len(steps) > 1:
                     dated.append(ShiftLag(arcs[-1], 0, one.shift, True, False, self.crews.calendar, tuple(begins)))
         return arcs, dated
+
+
+def steps_between(shifts: Sequence[Stretch]) -> set[int]:
+    """How long it is from the begin of one to that of the next."""
+    return {later - sooner for (sooner, _), (later, _) in zip(shifts, shifts[1:])}
 
 
 def part(cut: Cut, number: int, periods: int) -> Row:

@@ -173,7 +173,9 @@ class Reading:
             if self.settings.horizon is not None:
                 raise BadInput(f"horizon {short(self.settings.horizon)}: no resource has hours of its own")
             return project, ()
-        project = with_hours(project, crews, self.time(self.settings.horizon, "horizon"))
+        ordered = replace(project, arcs=(*project.arcs, *cuts.order(self.names)))
+        found = with_hours(ordered, crews, self.time(self.settings.horizon, "horizon"))
+        project = replace(found, arcs=project.arcs)
         arcs, dated = cuts.lags(project, self.names)
         return replace(project, arcs=(*project.arcs, *arcs), dated=(*project.dated, *dated)), tuple(arcs)
 

@@ -128,9 +128,8 @@ class Causes:
             return self.words.greatest(self.project.arcs[part.number])
         if part.kind is Kind.ABSENCE:
             return self.words.absence(self.project.absences[part.number])
-        has_hours = any(one.resource == part.number for one in self.project.off)
         told = f"{self.words.names.resource(part.number)}, of which there {are(self.project.capacities[part.number])}"
-        return told + (", in its hours" if has_hours else "")
+        return told + (", in its hours" if part.number in self.project.crews else "")
 
     def lags_that_open(self, places: list[int]) -> None:
         """Takes each of these lags out of the whole project, and tells with which of them gone there is a schedule. No

@@ -104,8 +104,8 @@ def used_or_away(project: Project, starts: Sequence[int], resource: int) -> tupl
     """The use of a resource, with what is away, also after the last activity."""
     until = max([*starts, *project.ends([*starts])]) + max(project.durations) + 1
     absent = [(one.begins, one.ends, one.units) for one in away(project, resource, until)]
-    closed = [(one.begins, one.ends, one.units) for one in off(project, resource)]
-    absent += [*closed, (project.horizon or 0, until, project.capacities[resource])] if closed else []
+    absent += [(one.begins, one.ends, one.units) for one in off(project, resource)]
+    absent += [(project.horizon or 0, until, project.capacities[resource])] if resource in project.crews else []
     return steps([*((one.begins, one.ends, one.units) for one in stretches(project, starts, resource)), *absent])
 
 
