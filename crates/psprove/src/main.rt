@@ -19,14 +19,12 @@ use commands::{Subcommand, work_of};
 use cube::solve_cube;
 use devices::{Ended, Fault};
 use failure::Failure;
-use following::{Ear, ear, listen};
+use following::{ear, listen};
 use solve::solve;
-use std::alloc::Global;
 use std::io::IsTerminal;
 use std::process::ExitCode;
 use std::rt::Runtime;
-use std::sync::{Arc, Wait};
-use std::thread::Threads;
+use std::sync::Arc;
 use std::{fs, thread};
 use verify_run::RecordKind;
 
@@ -58,33 +56,25 @@ fn follows(work: &Subcommand) -> bool {
     }
 }
 
-/// What a search hears: standard input tells it more while it goes on, if the work follows it.
-fn attend<R: Runtime + Threads + Wait + Send + 'static>(
-    rt: &R,
-    alloc: Global,
-    follows: bool,
-) -> Result<Ear, Fault> {
-    let mine = ear(alloc)?;
-    if follows {
-        let (theirs, own) = (Arc::try_clone(&mine)?, rt.clone()?);
-        if thread::spawn(rt, move || listen(&own, alloc, &theirs)).is_err() {
-            return Err(Fault::Thread);
-        }
-    }
-    Ok(mine)
-}
-
 fn main(rt: HostRuntime) -> ExitCode {
-    let work = match work_of(&rt) {
+    let (alloc, work) = (rt.alloc(), work_of(&rt));
+    let work = match work {
         Ok(work) => work,
         Err(fault) => return refuse(&rt, PROGRAM, &fault),
     };
     tell_wait(&rt, &work);
-    let mine = match attend(&rt, rt.alloc(), follows(&work)) {
-        Ok(mine) => mine,
-        Err(fault) => return report(&rt, PROGRAM, &Ended::with(fault)),
+    let Ok(mine) = ear(alloc) else {
+        return report(&rt, PROGRAM, &Ended::with(Fault::Memory));
     };
-    let (alloc, _input) = (rt.alloc(), fs::open(&rt, FOLDER));
+    if follows(&work) {
+        let Ok(theirs) = Arc::try_clone(&mine) else {
+            return report(&rt, PROGRAM, &Ended::with(Fault::Memory));
+        };
+        if thread::spawn(&rt, move || listen(&rt, alloc, &theirs)).is_err() {
+            return report(&rt, PROGRAM, &Ended::with(Fault::Thread));
+        }
+    }
+    let _input = fs::open(&rt, FOLDER);
     let _output = fs::open(&rt, FOLDER);
     let _faults = fs::open(&rt, FOLDER);
     match &work {
