@@ -1,9 +1,7 @@
 """Microsoft Project's XML (MSPDI), which ProjectLibre, GanttProject and TaskJuggler write too, as a project."""
 import datetime
 import re
-from collections.abc import Iterator
-from contextlib import contextmanager
-from dataclasses import dataclass, field
+from dataclasses import dataclass
 from functools import cached_property
 from math import gcd
 from xml.etree.ElementTree import Element
@@ -11,9 +9,10 @@ from xml.etree.ElementTree import Element
 from ..calendars import BEYOND, Calendar
 from ..dates import read_shift
 from ..errors import BadInput
-from ..letters import at_most, printable, short
+from ..letters import printable, short
 from ..model import Parts
 from ..work_time import WorkTime
+from .faults import Gathering
 from .mspdi_calendar import base_calendar, by_uid, holidays, hours, is_like_project
 from .mspdi_limits import Limits, due_dates
 from .mspdi_outline import Outline, is_set
@@ -41,22 +40,10 @@ class Link:
 
 
 @dataclass
-class Document:
-    """An MSPDI file as far as it is read. Faults are gathered, so that all are told at once."""
+class Document(Gathering):
+    """An MSPDI file as far as it is read."""
 
     root: Element
-    faults: list[str] = field(default_factory=list)
-
-    @contextmanager
-    def kept(self) -> Iterator[None]:
-        try:
-            yield
-        except BadInput as fault:
-            self.faults += [told for told in map(str, fault.args) if told not in self.faults]
-
-    def tell(self) -> None:
-        if self.faults:
-            raise BadInput(*at_most(self.faults))
 
     @cached_property
     def outline(self) -> Outline:
