@@ -82,6 +82,7 @@ class Parts:
         self.activities: list[Activity] = []
         self.lags: list[Lag] = []
         self.absences: list[Absence] = []
+        self.ids: dict[int, str] = {}  # by which a planning tool knows the activities of these numbers
         self._source, self._sink = Activity("", 0, {}, 0), Activity("", 0, {}, -1)
         self._named: dict[str, Activity] = {}
 

@@ -66,16 +66,19 @@ def shop(seed: int, is_open: bool) -> psmax.Project:
     return made
 
 
-def tasks(seed: int) -> psmax.Project:
-    """What Microsoft Project can say: links of all four kinds, and a constraint or a due date of some tasks."""
+def tasks(seed: int, of_primavera: bool = False) -> psmax.Project:
+    """What Microsoft Project can say: links of all four kinds, and a constraint or a due date of some tasks. Primavera has one
+    due date of all, resources that something needs, and milestones that need none."""
     chance, made = random.Random(seed), psmax.Project()
     made.work_time = psmax.WorkTime("2026-03-02 08:00", "hours", "mon-wed,fri", (datetime.date(2026, 3, 6),),
                                     "08:00-12:00,13:00-17:00")
     resources = [made.resource(f"r <{k}>", chance.randint(1, 5)) for k in range(chance.randint(0, 3))]
     for number in range(chance.randint(1, 6)):
-        needs = {one: chance.randint(1, one.capacity) for one in resources if chance.random() < 0.7}
-        due = chance.choice([None, chance.randint(1, 9)])
-        made.activity(f"a & {number}", chance.randint(0, 9) if number else 1, needs, due)
+        needs = {one: chance.randint(1, one.capacity) for one in resources
+                 if chance.random() < 0.7 or of_primavera and not number}
+        due = 40 * (seed % 2) or None if of_primavera else chance.choice([None, chance.randint(1, 9)])
+        length = chance.randint(0, 9) if number else 1
+        made.activity(f"a & {number}", length, needs if length or not of_primavera else {}, due)
     for one in made.activities:
         kind = chance.randrange(5)
         if kind < 3:

@@ -17,7 +17,8 @@ SIGNS = "0129-+.,:;[]{}()<>&\"'*#x \t\n\r\0\u00e4\u2028"
 MAKERS: dict[str, Callable[[int], psmax.Project]] = {
     "sch": made.plain, "json": made.any_project, "sm": made.precedences, "rcp": made.precedences,
     "job-shop": lambda seed: made.shop(seed, False), "taillard": lambda seed: made.shop(seed, False),
-    "open-shop": lambda seed: made.shop(seed, True), "mspdi": made.tasks}
+    "open-shop": lambda seed: made.shop(seed, True), "mspdi": made.tasks,
+    "xer": lambda seed: made.tasks(seed, True)}
 # Each file of data with its format, and the makespan of a shortest schedule.
 KNOWN = {
     "ft06.jsp": ("job-shop", 55),  # Fisher and Thompson 1963
@@ -26,6 +27,7 @@ KNOWN = {
     "six.sm": ("sm", 9),  # by trying all starts, as is tested below
     "six.rcp": ("rcp", 9),
     "hall.xml": ("mspdi", 12),  # by hand, in test_mspdi.py
+    "hall.xer": ("xer", 12),  # the same hall
     "bridge.json": ("json", 13),  # by hand: the crane is away until day 10
 }
 
@@ -76,7 +78,7 @@ class Formats(InFolder):
                 self.assertTrue(FORMATS[kind].is_like((DATA / name).read_text()))
                 answer = project.solve(seconds=30, jobs=1)
                 self.assertEqual((answer.status, answer.makespan), (psmax.Status.OPTIMAL, makespan))
-                if kind != "mspdi":  # which has more of a file than one can write anew
+                if kind not in ("mspdi", "xer"):  # which have more of a file than one can write anew
                     self.assertEqual(psmax.Project.read(project.text(kind)).text(kind), project.text(kind))
 
     def test_by_trying_all_starts(self) -> None:

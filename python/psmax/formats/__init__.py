@@ -8,7 +8,7 @@ from ..errors import BadInput
 from ..files import LARGEST, decoded, must_be_short
 from ..letters import composed, short
 from ..model import Parts
-from . import job_shop, json_text, mspdi_sign, rcp, sch, sm, taillard
+from . import job_shop, json_text, mspdi_sign, rcp, sch, sm, taillard, xer_sign
 
 
 @dataclass(frozen=True)
@@ -32,10 +32,21 @@ def write_mspdi(project: Parts) -> str:
     return mspdi_text.write(project)
 
 
+def read_xer(text: str, project: Parts) -> None:
+    from . import xer
+    xer.read(text, project)
+
+
+def write_xer(project: Parts) -> str:
+    from . import xer_text
+    return xer_text.write(project)
+
+
 # In the order in which a text is looked at.
 FORMATS = {one.name: one for one in (
     Format("json", (json_text.SUFFIX,), json_text.is_like, json_text.read, json_text.write),
     Format("mspdi", (mspdi_sign.SUFFIX,), mspdi_sign.is_like, read_mspdi, write_mspdi),
+    Format("xer", (xer_sign.SUFFIX,), xer_sign.is_like, read_xer, write_xer),
     Format("sm", (sm.SUFFIX,), sm.is_like, sm.read, sm.write),
     Format("open-shop", (), taillard.is_like_open_shop, taillard.read_open_shop, taillard.write_open_shop),
     Format("taillard", (), taillard.is_like_job_shop, taillard.read_job_shop, taillard.write_job_shop),
@@ -72,9 +83,10 @@ def read(data: bytes, project: Parts, called: str, name: str | None = None) -> F
 
 
 def must_be_readable(called: str, data: bytes) -> None:
-    """A fault where a text is too long: psmax's own and XML may have so many bytes as psmax reads, others fewer."""
+    """A fault where a text is too long: psmax's own and those of planning tools may have so many bytes as psmax reads, others
+    fewer."""
     begin = decoded(data[:10_000])
-    if not sch.is_like(begin) and not mspdi_sign.is_like(begin):
+    if not any(one.is_like(begin) for one in (sch, mspdi_sign, xer_sign)):
         must_be_short(called, data)
     if len(data) > LARGEST:
         raise BadInput(f"{called}: too long: it has more than {LARGEST:,} bytes")

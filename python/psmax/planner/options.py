@@ -391,8 +391,8 @@ and what is known of the project.""", "cubes"),
      "Reads a project and a record. Prints what it proves, or its first fault.", "site.csv plan.rec"),
     ("write", add_write, "write a schedule as a table in CSV",
      """Reads a project and an answer. Writes a row for each activity, with its dates.
-Where --out ends in .ics it writes a calendar, and in .xml the project of Microsoft
-Project with the starts.""", "site.csv plan.csv"),
+Where --out ends in .ics it writes a calendar, and in .xml or .xer the project of
+Microsoft Project or of Primavera with the dates.""", "site.csv plan.csv"),
     ("gantt", add_gantt, "draw a schedule as a chart",
      "Reads a project and an answer. Draws a chart, with every violation.", "site.csv plan.csv --svg site.svg"),
     ("float", add_float, "show when each activity may start, and which are critical",

@@ -134,7 +134,7 @@ def open_other(path: str, data: bytes, words: Settings, page: str | None) -> Pro
     from ..api import Project
     made = Project()
     read(data, made, path)
-    names = Names({one.number: one.name for one in made.activities}, [one.name for one in made.resources])
+    names = Names({one.number: one.name for one in made.activities}, [one.name for one in made.resources], ids=made.ids)
     told, days = Settings(title=made.name or None), frozenset[datetime.date]()
     if made.work_time is not None:
         time = made.work_time
@@ -158,7 +158,7 @@ def is_starts(text: str) -> bool:
 
 def is_table(path: str, text: str) -> bool:
     """Whether a file has activities with names and durations, or is called as one that should have."""
-    if PROJECT.match(text.encode("utf-8", "replace")):
+    if PROJECT.match(text.encode("utf-8", "replace")) or FORMATS["xer"].is_like(text):
         return False
     try:
         sheet = read_sheet(path, text, is_head)

@@ -10,8 +10,8 @@ from typing import TYPE_CHECKING
 from ..call_files import lose_none, must_be_like
 from ..clock import Clock
 from ..errors import BadInput
-from ..files import STANDARD_INPUT, read_bytes, write_whole
-from ..formats import mspdi_sign
+from ..files import STANDARD_INPUT, decoded, read_bytes, write_whole
+from ..formats import mspdi_sign, xer_sign
 from ..psmax import Psmax
 from ..psprove import Psprove
 from ..spreadsheet import SUFFIX
@@ -127,6 +127,9 @@ def write(opened: ProjectFile, given: str | None, sheet: Sheet, resource: str | 
     elif suffix == mspdi_sign.SUFFIX:
         must_be_like(sheet.out, b"<", "XML")
         put(replanned(opened, known.starts), sheet.out)
+    elif suffix == xer_sign.SUFFIX:
+        must_be_like(sheet.out, xer_sign.MARK.encode(), "project of Primavera")
+        write_whole(sheet.out or "", with_dates(opened, known.starts))
     else:
         sheet.put(rows(opened, known.starts), opened)
     said = verdict(opened, known.starts, known.starts[-1])
@@ -146,3 +149,14 @@ def replanned(opened: ProjectFile, starts: tuple[int, ...]) -> str:
         raise BadInput(f"{opened.path} is no project of Microsoft Project (MSPDI), into which starts could be written")
     project = Project.read(text.encode())
     return mspdi_text.replanned(text, Schedule(project, starts))
+
+
+def with_dates(opened: ProjectFile, starts: tuple[int, ...]) -> bytes:
+    """The file of the project with these starts, where it is one of Primavera."""
+    from ..answer import Schedule
+    from ..api import Project
+    from ..formats import xer_text
+    data = read_bytes(opened.path)
+    if not xer_sign.is_like(decoded(data)):
+        raise BadInput(f"{opened.path} is no project of Primavera, into which dates could be written")
+    return xer_text.replanned(data, Schedule(Project.read(data), starts))

@@ -1,0 +1,31 @@
+"""A .xer file of Primavera P6 as a project."""
+from ..errors import BadInput
+from ..model import Parts
+from .xer_document import Document, code
+from .xer_limits import Progress
+from .xer_resources import Needs
+from .xer_tables import read_tables
+
+
+def read(text: str, project: Parts) -> None:
+    document = Document(read_tables(text))
+    with document.kept():
+        fill(document, project)
+    document.tell()
+
+
+def fill(document: Document, project: Parts) -> None:
+    if not document.activities:
+        raise BadInput("the project has no activities")
+    progress = Progress(document)
+    project.name, project.work_time = document.title, progress.work_time
+    with document.kept():
+        document.must_count_lags()
+    needs = Needs(document, progress.calendar)
+    with document.kept():
+        needs.fill(project)
+    due = progress.due_dates()
+    for uid, row in document.activities.items():
+        made = project.activity(document.names[uid], progress.duration(uid), needs.of.get(uid), due.get(uid))
+        project.ids[made.number] = code(row)
+    progress.fill(project)

@@ -1,0 +1,145 @@
+"""What a .xer file says of times: what has started and what remains of it, constraints, and dates by which all should end."""
+import datetime
+from dataclasses import dataclass
+from functools import cached_property
+
+from ..calendars import Calendar
+from ..errors import BadInput
+from ..letters import short
+from ..model import Activity, Parts
+from ..work_time import WorkTime
+from .mspdi import calendar_of, period_of
+from .mspdi_limits import limit_of
+from .xer_document import Document, Link, called
+from .xer_tables import cell, moment
+
+# The kinds of constraints as Microsoft Project counts them. As late as possible says nothing of when.
+KINDS = {"CS_MSO": "2", "CS_MANDSTART": "2", "CS_MEO": "3", "CS_MANDFIN": "3", "CS_MSOA": "4", "CS_MSOB": "5", "CS_MEOA": "6",
+         "CS_MEOB": "7", "CS_ALAP": "1"}
+SOONEST = "CS_MSOA"
+
+
+@dataclass
+class Progress:
+    """Minutes become periods here. What has started touches whole periods; all else is exact."""
+
+    document: Document
+
+    @cached_property
+    def constraints(self) -> dict[str, list[tuple[str, datetime.datetime]]]:
+        """The kinds and the dates of each activity that has not started."""
+        found: dict[str, list[tuple[str, datetime.datetime]]] = {}
+        for uid in self.document.activities:
+            if uid not in self.document.begun:
+                with self.document.kept():
+                    found[uid] = self.constraints_of(uid)
+        return found
+
+    def constraints_of(self, uid: str) -> list[tuple[str, datetime.datetime]]:
+        row, found = self.document.activities[uid], list[tuple[str, datetime.datetime]]()
+        for kind, date in (("cstr_type", "cstr_date"), ("cstr_type2", "cstr_date2"), (SOONEST, "external_early_start_date")):
+            at, told = moment(row, date, called(row)), kind if kind == SOONEST else cell(row, kind)
+            if told and told not in KINDS:
+                raise BadInput(f"{called(row)}: a constraint of the unknown kind '{short(told)}'")
+            if at is not None and told:
+                found.append((told, at))
+        return found
+
+    @cached_property
+    def minutes(self) -> int:
+        dates = [at for told in self.constraints.values() for _, at in told]
+        return self.document.period([self.document.data_date, *dates])
+
+    @cached_property
+    def work_time(self) -> WorkTime:
+        return self.document.work(period_of(self.minutes))
+
+    @cached_property
+    def calendar(self) -> Calendar:
+        return calendar_of(self.work_time)
+
+    @cached_property
+    def now(self) -> int:
+        return self.calendar.from_on(self.document.data_date)
+
+    def start(self, uid: str) -> int:
+        """Of what has started."""
+        row, at = self.document.activities[uid], self.document.begun[uid]
+        is_milestone = cell(row, "task_type") in ("TT_Mile", "TT_FinMile")
+        return self.calendar.from_on(at) if is_milestone else max(0, self.calendar.by(at))
+
+    def duration(self, uid: str) -> int:
+        """What has started goes on from the data date for what remains."""
+        document, row = self.document, self.document.activities[uid]
+        left = document.remaining[uid] // self.minutes
+        if uid not in document.begun:
+            return left
+        if not document.is_complete(uid):
+            if cell(row, "suspend_date"):
+                document.faults.append(f"{called(row)}: it is suspended, and activities here run without a pause")
+            return max(0, self.now - self.start(uid)) + left
+        with document.kept():
+            ended = moment(row, "act_end_date", called(row))
+            if ended is None:
+                raise BadInput(f"{called(row)}: it is complete, and has no act_end_date")
+            if ended < document.begun[uid]:
+                raise BadInput(f"{called(row)}: its end {ended} is before its start {document.begun[uid]}")
+            return max(0, self.calendar.from_on(ended) - self.start(uid))
+        return 0
+
+    def due_dates(self) -> dict[str, int]:
+        """The project's date by which it must finish, and that of links to other projects. They move nothing in Primavera."""
+        document, found = self.document, dict[str, int]()
+        whole = moment(document.project, "plan_end_date", "the project")
+        for uid, row in document.activities.items():
+            with document.kept():
+                told = [one for one in (whole, moment(row, "external_late_end_date", called(row))) if one is not None]
+                time = self.calendar.by(min(told)) if told else None
+                if time is not None and time < 0:
+                    raise BadInput(f"{called(row)}: it is due at {min(told)}, before the project starts")
+                if time is not None and not document.is_complete(uid):
+                    found[uid] = time
+        return found
+
+    def fill(self, project: Parts) -> None:
+        """Adds the links, what has started, and the constraints."""
+        document = self.document
+        own = {uid: project[name] for uid, name in document.names.items()}
+        for link in document.links:
+            if link.after in document.begun:
+                with document.kept():
+                    self.must_be_history(link, own)
+            else:
+                before, after = own[link.before], own[link.after]
+                project.lag(before.end if link.from_end else before.start, after.end if link.to_end else after.start,
+                            at_least=link.minutes // self.minutes)
+        for uid, activity in own.items():
+            if uid in document.begun:
+                project.lag(project.start, activity.start, at_least=self.start(uid), at_most=self.start(uid))
+            elif self.now:
+                project.lag(project.start, activity.start, at_least=self.now)
+            if cell(document.activities[uid], "expect_end_date") and not document.is_complete(uid):
+                document.faults.append(f"{called(document.activities[uid])}: an expected finish, from which Primavera takes "
+                                       "its duration")
+        self.constrain(project, own)
+
+    def constrain(self, project: Parts, own: dict[str, Activity]) -> None:
+        for uid, told in self.constraints.items():
+            for kind, at in told:
+                found = limit_of(KINDS[kind], self.calendar, at)
+                if found is not None:
+                    point = own[uid].end if found.is_end else own[uid].start
+                    project.lag(project.start, point, at_least=found.least, at_most=found.most)
+
+    def must_be_history(self, link: Link, own: dict[str, Activity]) -> None:
+        """A link to what is complete says nothing any more, and one to what has started is kept by what was done. Where it is
+        not, Primavera has the rest wait, by an option."""
+        document = self.document
+        if document.is_complete(link.after):
+            return
+        is_known = document.is_complete(link.before) or not link.from_end and link.before in document.begun
+        time = self.start(link.before) + (own[link.before].duration if link.from_end else 0) if is_known else 0
+        end = self.start(link.after) + own[link.after].duration if link.to_end else self.now
+        if not is_known or time + link.minutes // self.minutes > end:
+            raise BadInput(f"{called(document.activities[link.after])}: it has started although its link from "
+                           f"{called(document.activities[link.before])} is not kept; take the link away, or give it a lag")

@@ -1,0 +1,111 @@
+"""What each activity of a .xer file needs, in units by time, and how many units there are when."""
+from dataclasses import dataclass, field
+from fractions import Fraction
+from functools import cached_property
+
+from ..calendars import Calendar
+from ..errors import BadInput
+from ..letters import printable, short
+from ..model import Parts, Resource
+from ..project import MOST_RESOURCES
+from .mspdi_resources import Stretch, absences
+from .xer_document import Document, called
+from .xer_tables import HOUR, Row, cell, moment, number
+
+MATERIAL = "RT_Mat"
+SCALES = (1, 100, 10_000)  # units, in percent, and in hundredths of that
+NEAR = Fraction(1, 100)  # the share by which units and hours may differ, since both are rounded
+Want = tuple[str, str, Fraction]  # an activity, a resource and how many units
+
+
+@dataclass
+class Needs:
+    document: Document
+    calendar: Calendar
+    of: dict[str, dict[Resource, int]] = field(default_factory=dict)
+
+    @cached_property
+    def resources(self) -> dict[str, Row]:
+        return {cell(row, "rsrc_id"): row for row in self.document.tables.get("RSRC", [])
+                if cell(row, "rsrc_type") != MATERIAL}
+
+    def fill(self, project: Parts) -> None:
+        """Adds the resources that something needs, with their absences."""
+        wanted, known = self.wanted(), self.resources
+        used = [uid for uid in known if any(uid == one for _, one, _ in wanted)]
+        if len(used) > MOST_RESOURCES:
+            raise BadInput(f"{len(used)} resources, and a project has at most {MOST_RESOURCES}")
+        there = {uid: self.there(uid, known[uid]) for uid in used}
+        counts = [count for one in there.values() for *_, count in one] + [count for *_, count in wanted]
+        scale = next((one for one in SCALES if all((count * one).denominator == 1 for count in counts)), None)
+        if scale is None:
+            raise BadInput("units by time have more than four digits behind the point")
+        own: dict[str, Resource] = {}
+        for uid in used:
+            name = printable(cell(known[uid], "rsrc_name") or cell(known[uid], "rsrc_short_name") or f"resource {uid}")
+            name = name if all(name != other.name for other in project.resources) else f"{name} ({printable(uid)})"
+            most = max((count for *_, count in there[uid]), default=Fraction(0))
+            own[uid] = project.resource(name, int(most * scale))
+            for begins, ends, away in absences(there[uid], most, self.calendar):
+                project.absence(own[uid], begins, ends, int(away * scale))
+        for task, resource, count in wanted:
+            row = self.of.setdefault(task, {})
+            row[own[resource]] = row.get(own[resource], 0) + int(count * scale)
+
+    def wanted(self) -> list[Want]:
+        """What is complete needs nothing any more, and what takes no time nothing at all."""
+        document, known, found, spanning = self.document, self.resources, list[Want](), list[tuple[str, str]]()
+        for row in document.rows("TASKRSRC"):
+            task, resource = cell(row, "task_id"), cell(row, "rsrc_id")
+            if resource in known and task in document.spanning:
+                spanning.append((task, resource))
+            elif resource in known and document.remaining.get(task):
+                with document.kept():
+                    found.append((task, resource, self.units(task, resource, row)))
+        for task, resource in spanning:
+            if any(resource == one for _, one, _ in found):
+                document.faults.append(f"{called(document.spanning[task])}: it needs {named(known[resource])} as long as "
+                                       "others take, and activities here have a duration of their own")
+        return found
+
+    def units(self, task: str, resource: str, row: Row) -> Fraction:
+        """By hour, for all of what remains."""
+        document, activity = self.document, self.document.activities[task]
+        name = f"{called(activity)}: its assignment of {named(self.resources[resource])}"
+        hours = Fraction(document.remaining[task], HOUR)
+        if any(number(row, one, name) for one in ("target_lag_drtn_hr_cnt", "relag_drtn_hr_cnt")):
+            raise BadInput(f"{name} begins later than the activity")
+        if cell(row, "curv_id"):
+            raise BadInput(f"{name} has a curve, and units stay the same here")
+        if cell(activity, "task_type") == "TT_Rsrc":
+            self.must_have_hours(resource, name)
+        whole, each = (next((told for told in (number(row, f"{kind}{what}", name) for kind in ("remain_", "target_")) if told),
+                            None) for what in ("qty", "qty_per_hr"))
+        each = each if each is not None else whole / hours if whole is not None else None
+        if each is None:
+            raise BadInput(f"{name} says no units")
+        if each < 0 or whole is not None and abs(whole - each * hours) > max(NEAR * whole, NEAR):
+            raise BadInput(f"{name} takes another time than the activity: {float(whole or 0):g} hours of work by "
+                           f"{float(each):g} an hour, in {float(hours):g} hours")
+        return each
+
+    def must_have_hours(self, resource: str, name: str) -> None:
+        """An activity that depends on its resources works in their calendars."""
+        document, uid = self.document, cell(self.resources[resource], "clndr_id")
+        if uid in document.calendars and document.hours(uid) != document.hours(document.calendar_id):
+            raise BadInput(f"{name} works in the {document.calendar_name(uid)}; all have one calendar here")
+
+    def there(self, uid: str, resource: Row) -> list[Stretch]:
+        """How many units there are when. The first that are told were there before too."""
+        called, rates = named(resource), self.document.tables.get("RSRCRATE", [])
+        rows = sorted((row for row in rates if cell(row, "rsrc_id") == uid), key=lambda row: cell(row, "start_date"))
+        told = [(moment(row, "start_date", called), number(row, "max_qty_per_hr", called)) for row in rows]
+        told = told or [(None, number(resource, "max_qty_per_hr", called))]
+        if any(count is None or count < 0 for _, count in told):
+            raise BadInput(f"{called}: it has no greatest number of units by time (max_qty_per_hr)")
+        begins = [None, *(at for at, _ in told[1:])]
+        return [(first, last, count or Fraction(0)) for first, last, (_, count) in zip(begins, [*begins[1:], None], told)]
+
+
+def named(resource: Row) -> str:
+    return f"resource '{short(cell(resource, 'rsrc_name') or cell(resource, 'rsrc_short_name'))}'"
