@@ -67,8 +67,8 @@ def shop(seed: int, is_open: bool) -> psmax.Project:
 
 
 def tasks(seed: int, of_primavera: bool = False) -> psmax.Project:
-    """What Microsoft Project can say: links of all four kinds, and a constraint or a due date of some tasks. Primavera has one
-    due date of all, resources that something needs, and milestones that need none."""
+    """What Microsoft Project can say: links of all four kinds, and a constraint or a due date of some tasks. Primavera
+    has one due date of all, resources that something needs, and milestones that need none."""
     chance, made = random.Random(seed), psmax.Project()
     made.work_time = psmax.WorkTime("2026-03-02 08:00", "hours", "mon-wed,fri", (datetime.date(2026, 3, 6),),
                                     "08:00-12:00,13:00-17:00")

@@ -37,8 +37,8 @@ def add(table: str, row: str, text: str = HALL) -> str:
 
 def lags(made: psmax.Project, name: str) -> set[tuple[str, bool, bool, int | None, int | None]]:
     """Those to an activity: from which, from its end, to the end, at least and at most."""
-    return {(lag.before.activity.name, lag.before.is_end, lag.after.is_end, lag.at_least, lag.at_most) for lag in made.lags
-            if lag.after.activity.name == name}
+    return {(lag.before.activity.name, lag.before.is_end, lag.after.is_end, lag.at_least, lag.at_most)
+            for lag in made.lags if lag.after.activity.name == name}
 
 
 class Read(unittest.TestCase):
@@ -68,7 +68,8 @@ class Read(unittest.TestCase):
 
     def test_progress(self) -> None:
         """What is complete stays and needs nothing; what has started goes on from the data date for what remains."""
-        text = put("TASK", "A1010", "status_code", "TK_Complete", put("TASK", "A1010", "act_end_date", "2026-03-03 15:20"))
+        text = put("TASK", "A1010", "act_end_date", "2026-03-03 15:20")
+        text = put("TASK", "A1010", "status_code", "TK_Complete", text)
         text = put("TASK", "A1020", "act_start_date", "2026-03-04 08:00", text)
         text = put("TASK", "A1020", "status_code", "TK_Active", text)
         hall = psmax.Project.read(put("PROJECT", "HALL", "last_recalc_date", "2026-03-04 13:00", text))
@@ -77,6 +78,18 @@ class Read(unittest.TestCase):
         self.assertEqual((hall["pour"].duration, lags(hall, "pour")), (3, {("", False, False, 4, 4)}))
         early = put("TASK", "A1010", "act_start_date", "2026-02-27 08:00")
         self.assertEqual(psmax.Project.read(early)["dig"].duration, 6)
+
+    def test_units(self) -> None:
+        """By hour, or else work by hours; an assignment without work left needs nothing."""
+        for column, value, wanted in (("remain_qty_per_hr", "", {"crew": 1}), ("remain_qty", "0", {}),
+                                      ("remain_qty", "", {"crew": 1})):
+            text = put("TASKRSRC", "1005", "target_qty_per_hr", "")
+            hall = psmax.Project.read(put("TASKRSRC", "1005", column, value, text))
+            with self.subTest(column, value=value):
+                self.assertEqual({one.name: units for one, units in hall["rails"].demands.items()}, wanted)
+        hall = psmax.Project.read(put("TASKRSRC", "1005", "remain_qty_per_hr", "1.5",
+                                      put("TASKRSRC", "1005", "remain_qty", "12")))
+        self.assertEqual([one.capacity for one in hall.resources], [400, 100])
 
     def test_constraints(self) -> None:
         """Each kind; the moment is one o'clock, where period 9 begins, behind the noon where period 8 ends."""
@@ -91,7 +104,7 @@ class Read(unittest.TestCase):
         self.assertIn(("", False, True, None, 12), lags(psmax.Project.read(both), "paint"))
 
     def test_periods(self) -> None:
-        """A period divides the hours of a constraint; the clock may run round; a crew has fewer people from a day on."""
+        """A period divides the hours of a constraint; work may go round the clock; a crew may grow on a day."""
         hall = psmax.Project.read(put("TASK", "A1070", "cstr_date", "2026-03-09 14:30"))
         self.assertEqual(hall.work_time and hall.work_time.period, "30 minutes")
         plain = calendar_data("mon-sun", "00:00-12:00,12:00-24:00", ())
@@ -107,24 +120,24 @@ class Read(unittest.TestCase):
         mixed = friday.replace("(0||6()())", "(0||6()((0||0(s|08:00|f|11:00)())))")
         for text, *wanted in (
             (HALL.replace("%E\n", ""), "no %E at its end"),
-            (put("PROJECT", "HALL", "last_recalc_date", "soon"), "last_recalc_date is no date such as 2026-03-02 08:00"),
+            (put("PROJECT", "HALL", "last_recalc_date", "soon"), "last_recalc_date is no date such as 2026-03-02"),
             (add("PROJECT", "%R\t101\t10\tOTHER\tY\t\t\t\t\n"), "2 projects (OTHER, HALL)"),
             (put("TASK", "A1030", "clndr_id", "11", nights), "activity A1030 'cure': it has the calendar 'Nights'"),
-            (put("RSRC", "crew", "clndr_id", "11", nights), "A1050 'rails': its assignment of resource 'crew' works in the"),
+            (put("RSRC", "crew", "clndr_id", "11", nights), "A1050 'rails': its assignment of resource 'crew'"),
             (put("CALENDAR", "Standard", "clndr_data", mixed), "calendar 'Standard': its days have different hours"),
             (put("CALENDAR", "Standard", "clndr_data", friday[:-2]), "its clndr_data is cut off"),
             (put("TASKPRED", "PR_SS", "pred_task_id", "77"), "a link from an activity of another project"),
-            (HALL.replace("rcal_Predecessor", "rcal_24Hour"), "A1030 'cure': a link with a lag, and 1 more, which counts"),
-            (put("TASK", "A1020", "act_start_date", "2026-03-02 08:00"), "A1020 'pour': it has started although its link from"),
+            (HALL.replace("rcal_Predecessor", "rcal_24Hour"), "'cure': a link with a lag, and 1 more, which"),
+            (put("TASK", "A1020", "act_start_date", "2026-03-02 08:00"), "A1020 'pour': it has started although its"),
             (put("TASK", "A1010", "act_start_date", late), "behind the data date 2026-03-03 08:00"),
             (put("TASK", "A1010", "suspend_date", "2026-03-03 08:00"), "A1010 'dig': it is suspended"),
             (put("TASK", "A1030", "expect_end_date", late, put("TASKRSRC", "1004", "curv_id", "7")),
              "its assignment of resource 'crew' has a curve", "its assignment of resource 'crane' has a curve",
              "A1030 'cure': an expected finish"),
-            (put("TASKRSRC", "1005", "remain_qty_per_hr", "2"), "takes another time than the activity: 8 hours of work by 2"),
+            (put("TASKRSRC", "1005", "remain_qty_per_hr", "2"), "another time than the activity: 8 hours of work by 2"),
             (put("TASKRSRC", "1005", "relag_drtn_hr_cnt", "2"), "'crew' begins later than the activity"),
-            (put("TASKRSRC", "1005", "task_id", "1009"), "A1090 'supervision': it needs resource 'crew' as long as others"),
-            (put("RSRCRATE", "400", "max_qty_per_hr", ""), "resource 'crew': it has no greatest number of units by time"),
+            (put("TASKRSRC", "1005", "task_id", "1009"), "A1090 'supervision': it needs resource 'crew'"),
+            (put("RSRCRATE", "400", "max_qty_per_hr", ""), "resource 'crew': it has no greatest number of units"),
         ):
             with self.subTest(wanted[0]), self.assertRaises(psmax.BadInput) as caught:
                 psmax.Project.read(text)
@@ -134,8 +147,9 @@ class Read(unittest.TestCase):
 
     def test_what_cannot_be_written(self) -> None:
         changes: list[Callable[[psmax.Project], object]] = [
-            lambda made: made.lag(made["dig"].end, made["pour"].start, at_most=3), lambda made: made.activity("late", 1, due=3),
-            lambda made: made.absence(made.resources[0], 1), lambda made: made.lag(made.start, made["dig"].end, at_least=0)]
+            lambda made: made.lag(made["dig"].end, made["pour"].start, at_most=3),
+            lambda made: made.activity("late", 1, due=3), lambda made: made.absence(made.resources[0], 1),
+            lambda made: made.lag(made.start, made["dig"].end, at_least=0)]
         for change in changes:
             hall = psmax.Project.read(HALL)
             change(hall)
@@ -164,11 +178,11 @@ class Written(InFolder):
         self.assertEqual(xer_text.replanned(planned, again.check(STARTS).schedule), planned)
 
     def test_plan(self) -> None:
-        """plan solves it, calls activities by their IDs, and writes the dates; it is no table, whatever its columns are."""
+        """plan solves it, calls activities by their IDs, and writes the dates."""
         path, best, planned = DATA / "hall.xer", self.folder / "best.csv", self.folder / "planned.xer"
         self.assertEqual(plan("solve", path, "--jobs", "1", "--out", best).stdout.partition("\n")[0],
                          "optimal, ends Tue 2026-03-10 17:00 (48 hours)")
         self.assertEqual(plan("write", path, best, "--out", planned).returncode, 0)
         self.assertIn("A1040,lift & bolt,9,1,10,2026-03-09 13:00,2026-03-09 17:00", plan("write", planned, best).stdout)
-        self.refused(plan("write", path, best, "--out", self.file("own.xer", "mine")), 2, "own.xer is there, and no project of")
+        self.refused(plan("write", path, best, "--out", self.file("own.xer", "mine")), 2, "own.xer is there, and no")
         self.refused(plan("write", DATA / "hall.xml", best, "--out", planned), 2, "hall.xml is no project of Primavera")

@@ -83,8 +83,8 @@ def read(data: bytes, project: Parts, called: str, name: str | None = None) -> F
 
 
 def must_be_readable(called: str, data: bytes) -> None:
-    """A fault where a text is too long: psmax's own and those of planning tools may have so many bytes as psmax reads, others
-    fewer."""
+    """A fault where a text is too long: psmax's own and those of planning tools may have so many bytes as psmax reads,
+    others fewer."""
     begin = decoded(data[:10_000])
     if not any(one.is_like(begin) for one in (sch, mspdi_sign, xer_sign)):
         must_be_short(called, data)

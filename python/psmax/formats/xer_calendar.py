@@ -1,5 +1,6 @@
-"""The calendars of a .xer file: the hours of each day of the week, and the days that have others. They stand in a cell as lists
-in brackets, `(0||NAME(KEY|VALUE)(LISTS))`, in which days count from Sunday, 1, and dates from 30 December 1899."""
+"""The calendars of a .xer file: the hours of each day of the week, and the days that have others. They stand in a cell
+as lists in brackets, `(0||NAME(KEY|VALUE)(LISTS))`, in which days count from Sunday, 1, and dates from 30 December
+1899."""
 import datetime
 import re
 from collections.abc import Collection, Iterator, Mapping
@@ -64,9 +65,11 @@ def hours_of(calendars: Mapping[str, Row], uid: str, first: datetime.date) -> Ho
     others = dict[datetime.date, Spans]()
     for row in base_first(calendars, uid):
         lists = read_lists(cell(row, "clndr_data"), called)
-        others |= {date_of(one.told.get("d", ""), called): spans_of(one.inner, called) for one in below(lists, "Exceptions")}
+        others |= {date_of(one.told.get("d", ""), called): spans_of(one.inner, called)
+                   for one in below(lists, "Exceptions")}
     work = {day: spans for day, spans in sorted(week.items()) if spans}
-    return Hours(work, {day: spans for day, spans in others.items() if day >= first and spans != work.get(day.weekday(), ())})
+    return Hours(work, {day: spans for day, spans in others.items()
+                        if day >= first and spans != work.get(day.weekday(), ())})
 
 
 def base_first(calendars: Mapping[str, Row], uid: str) -> list[Row]:

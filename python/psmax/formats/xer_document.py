@@ -18,10 +18,12 @@ from .xer_calendar import Hours, hours_of
 from .xer_tables import Row, cell, minutes, moment
 
 ENDS = {"PR_FS": (True, False), "PR_SS": (False, False), "PR_FF": (True, True), "PR_SF": (False, True)}
-WORK = {"TT_Task", "TT_Rsrc", "TT_Mile", "TT_FinMile"}
+MILESTONES = {"TT_Mile", "TT_FinMile"}
+WORK = {"TT_Task", "TT_Rsrc"} | MILESTONES
 SPANNING = {"TT_LOE", "TT_WBS"}  # which take as long as others
 COMPLETE = "TK_Complete"
-OF_PREDECESSOR, OF_SUCCESSOR, OF_PROJECT, OF_CLOCK = "rcal_Predecessor", "rcal_Successor", "rcal_ProjDefault", "rcal_24Hour"
+OF_PREDECESSOR, OF_SUCCESSOR = "rcal_Predecessor", "rcal_Successor"  # whose calendar a lag counts in
+OF_PROJECT, OF_CLOCK = "rcal_ProjDefault", "rcal_24Hour"
 
 
 @dataclass(frozen=True)
@@ -50,7 +52,7 @@ class Document(Gathering):
         own = [row for row in rows if cell(row, "export_flag") != "N"] or rows
         if len(own) != 1:
             names = ", ".join(short(cell(row, "proj_short_name")) for row in own)
-            raise BadInput(f"{len(own)} projects ({names}); export one alone" if own else "there is no project in the file")
+            raise BadInput(f"{len(own)} projects ({names}); export one alone" if own else "the file has no project")
         return own[0]
 
     @cached_property
@@ -64,7 +66,8 @@ class Document(Gathering):
         for row in self.rows("TASK"):
             uid = cell(row, "task_id")
             if uid in found or not uid:
-                raise BadInput(f"a second activity with the task_id {short(uid)}" if uid else "an activity has no task_id")
+                raise BadInput(f"a second activity with the task_id {short(uid)}" if uid else
+                               "an activity has no task_id")
             if uid not in self.spanning:
                 found[uid] = row
             if uid not in self.spanning and cell(row, "task_type") not in WORK:
@@ -78,7 +81,8 @@ class Document(Gathering):
         """Those of the same name have their IDs too."""
         told = {uid: printable(cell(row, "task_name") or code(row)) for uid, row in self.activities.items()}
         count = Counter(told.values())
-        return {uid: name if count[name] == 1 else f"{name} ({code(self.activities[uid])})" for uid, name in told.items()}
+        return {uid: name if count[name] == 1 else f"{name} ({code(self.activities[uid])})"
+                for uid, name in told.items()}
 
     @cached_property
     def title(self) -> str:
@@ -89,6 +93,9 @@ class Document(Gathering):
     def is_complete(self, uid: str) -> bool:
         return cell(self.activities[uid], "status_code") == COMPLETE
 
+    def is_milestone(self, uid: str) -> bool:
+        return cell(self.activities[uid], "task_type") in MILESTONES
+
     @cached_property
     def remaining(self) -> dict[str, int]:
         """Of each activity that is not complete, in minutes of work."""
@@ -98,7 +105,7 @@ class Document(Gathering):
                 names = () if self.is_complete(uid) else ("remain_drtn_hr_cnt", "target_drtn_hr_cnt")
                 told = [minutes(row, name, called(row)) for name in names]
                 found[uid] = next((one for one in told if one is not None), 0)
-                if names and told == [None, None] and cell(row, "task_type") not in ("TT_Mile", "TT_FinMile"):
+                if told == [None, None] and not self.is_milestone(uid):
                     raise BadInput(f"{called(row)}: it has no duration")
                 if found[uid] < 0:
                     raise BadInput(f"{called(row)}: its duration is below 0")
@@ -122,7 +129,8 @@ class Document(Gathering):
             raise BadInput(f"a link to the task_id {short(after)}, which is no activity of the project")
         name = called(self.activities[after])
         if before not in self.activities:
-            raise BadInput(f"{name}: a link from an activity of another project, or from none (task_id {short(before)})")
+            raise BadInput(f"{name}: a link from an activity of another project, or from none "
+                           f"(task_id {short(before)})")
         if ends is None or before == after:
             raise BadInput(f"{name}: a link to itself" if ends else
                            f"{name}: a link of the unknown type '{short(cell(row, 'pred_type'))}'")
@@ -132,8 +140,8 @@ class Document(Gathering):
     @cached_property
     def data_date(self) -> datetime.datetime:
         """Up to when it is known what has been done. What has not started starts no sooner."""
-        told = [one for one in (moment(self.project, name, "the project") for name in ("last_recalc_date", "plan_start_date"))
-                if one is not None]
+        dates = [moment(self.project, name, "the project") for name in ("last_recalc_date", "plan_start_date")]
+        told = [one for one in dates if one is not None]
         if not told:
             raise BadInput("the project has no last_recalc_date and no plan_start_date")
         return max(told)
@@ -175,20 +183,21 @@ class Document(Gathering):
 
     @cached_property
     def calendar_id(self) -> str:
-        """That of most activities whose calendar matters: they have work left, or a link with a lag, which their calendar
-        counts. Others must be like it."""
+        """That of most activities whose calendar matters: they have work left, or a link with a lag, which their
+        calendar counts. Others must be like it."""
         lagged = {uid for link in self.links if link.minutes for uid in (link.before, link.after)}
         by = {uid: cell(row, "clndr_id") or cell(self.project, "clndr_id") for uid, row in self.activities.items()
               if self.remaining[uid] or uid in lagged}
-        told = [one for one, _ in Counter(by.values()).most_common()] or [cell(self.project, "clndr_id"), *self.calendars]
+        told = [one for one, _ in Counter(by.values()).most_common()]
+        told = told or [cell(self.project, "clndr_id"), *self.calendars]
         if not told or {*told} - {*self.calendars}:
             unknown = next((called(self.activities[uid]) for uid, one in by.items() if one not in self.calendars),
                            "the project")
             raise BadInput(f"{unknown}: its calendar is not in the file")
         for uid, one in by.items():
             if self.hours(one) != self.hours(told[0]):
-                self.faults.append(f"{called(self.activities[uid])}: it has the {self.calendar_name(one)}, and most have the "
-                                   f"{self.calendar_name(told[0])}; all have one calendar here")
+                self.faults.append(f"{called(self.activities[uid])}: it has the {self.calendar_name(one)}, and most "
+                                   f"have the {self.calendar_name(told[0])}; all have one calendar here")
         return told[0]
 
     def calendar_name(self, uid: str) -> str:
@@ -212,7 +221,8 @@ class Document(Gathering):
         """How many minutes: the most that divides all lengths, the hours of work, and the work before these dates."""
         parts = read_shift(self.plain[1])
         now = 60 * self.first.hour + self.first.minute
-        lengths = [length for begins, ends in parts for length in (ends - begins, now - begins if begins < now < ends else 0)]
+        lengths = [length for begins, ends in parts
+                   for length in (ends - begins, now - begins if begins < now < ends else 0)]
         lengths += [*self.remaining.values(), *(abs(link.minutes) for link in self.links)]
         return gcd(*lengths, *map(self.clock.from_on, dates))
 
@@ -229,16 +239,16 @@ class Document(Gathering):
             and self.hours(cell(self.project, "clndr_id")) == own}
         if lagged and not (kind in others and others[kind]()):
             more = f", and {len(lagged) - 1} more" if len(lagged) > 1 else ""
-            raise BadInput(f"{called(self.activities[lagged[0].after])}: a link with a lag{more}, which counts in a calendar "
-                           f"that is not that of the activities ({short(kind)})")
+            raise BadInput(f"{called(self.activities[lagged[0].after])}: a link with a lag{more}, which counts in a "
+                           f"calendar that is not that of the activities ({short(kind)})")
 
     def must_count_from_starts(self) -> None:
         """By an option a lag from the start of what has started counts from the data date."""
         if any(cell(row, "sched_lag_early_start_flag") == "Y" for row in self.rows("SCHEDOPTIONS")):
             self.faults += [f"{called(self.activities[link.after])}: a lag from the start of "
-                            f"{called(self.activities[link.before])}, which has started; have the options of scheduling count "
-                            "it from the actual start" for link in self.links if link.minutes and not link.from_end
-                            and link.after not in self.begun and link.before in self.begun
+                            f"{called(self.activities[link.before])}, which has started; have the options of "
+                            "scheduling count it from the actual start" for link in self.links if link.minutes
+                            and not link.from_end and link.after not in self.begun and link.before in self.begun
                             and not self.is_complete(link.before)]
 
 

@@ -1,4 +1,5 @@
-"""What a .xer file says of times: what has started and what remains of it, constraints, and dates by which all should end."""
+"""What a .xer file says of times: what has started and what remains of it, constraints, and dates by which all should
+end."""
 import datetime
 from dataclasses import dataclass
 from functools import cached_property
@@ -14,9 +15,10 @@ from .xer_document import Document, Link, called
 from .xer_tables import cell, moment
 
 # The kinds of constraints as Microsoft Project counts them. As late as possible says nothing of when.
-KINDS = {"CS_MSO": "2", "CS_MANDSTART": "2", "CS_MEO": "3", "CS_MANDFIN": "3", "CS_MSOA": "4", "CS_MSOB": "5", "CS_MEOA": "6",
-         "CS_MEOB": "7", "CS_ALAP": "1"}
+KINDS = {"CS_ALAP": "1", "CS_MSO": "2", "CS_MANDSTART": "2", "CS_MEO": "3", "CS_MANDFIN": "3", "CS_MSOA": "4",
+         "CS_MSOB": "5", "CS_MEOA": "6", "CS_MEOB": "7"}
 SOONEST = "CS_MSOA"
+DATES = (("cstr_type", "cstr_date"), ("cstr_type2", "cstr_date2"), (SOONEST, "external_early_start_date"))
 
 
 @dataclass
@@ -37,7 +39,7 @@ class Progress:
 
     def constraints_of(self, uid: str) -> list[tuple[str, datetime.datetime]]:
         row, found = self.document.activities[uid], list[tuple[str, datetime.datetime]]()
-        for kind, date in (("cstr_type", "cstr_date"), ("cstr_type2", "cstr_date2"), (SOONEST, "external_early_start_date")):
+        for kind, date in DATES:
             at, told = moment(row, date, called(row)), kind if kind == SOONEST else cell(row, kind)
             if told and told not in KINDS:
                 raise BadInput(f"{called(row)}: a constraint of the unknown kind '{short(told)}'")
@@ -64,15 +66,14 @@ class Progress:
 
     def start(self, uid: str) -> int:
         """Of what has started."""
-        row, at = self.document.activities[uid], self.document.begun[uid]
-        is_milestone = cell(row, "task_type") in ("TT_Mile", "TT_FinMile")
-        return self.calendar.from_on(at) if is_milestone else max(0, self.calendar.by(at))
+        at = self.document.begun[uid]
+        return self.calendar.from_on(at) if self.document.is_milestone(uid) else max(0, self.calendar.by(at))
 
     def duration(self, uid: str) -> int:
         """What has started goes on from the data date for what remains."""
         document, row = self.document, self.document.activities[uid]
         left = document.remaining[uid] // self.minutes
-        if uid not in document.begun:
+        if uid not in document.begun or document.is_milestone(uid):
             return left
         if not document.is_complete(uid):
             if cell(row, "suspend_date"):
@@ -88,7 +89,8 @@ class Progress:
         return 0
 
     def due_dates(self) -> dict[str, int]:
-        """The project's date by which it must finish, and that of links to other projects. They move nothing in Primavera."""
+        """The project's date by which it must finish, and that of links to other projects. They move nothing in
+        Primavera."""
         document, found = self.document, dict[str, int]()
         whole = moment(document.project, "plan_end_date", "the project")
         for uid, row in document.activities.items():
@@ -118,9 +120,9 @@ class Progress:
                 project.lag(project.start, activity.start, at_least=self.start(uid), at_most=self.start(uid))
             elif self.now:
                 project.lag(project.start, activity.start, at_least=self.now)
-            if cell(document.activities[uid], "expect_end_date") and not document.is_complete(uid):
-                document.faults.append(f"{called(document.activities[uid])}: an expected finish, from which Primavera takes "
-                                       "its duration")
+            row = document.activities[uid]
+            if cell(row, "expect_end_date") and not document.is_complete(uid):
+                document.faults.append(f"{called(row)}: an expected finish, from which Primavera takes its duration")
         self.constrain(project, own)
 
     def constrain(self, project: Parts, own: dict[str, Activity]) -> None:
@@ -132,8 +134,8 @@ class Progress:
                     project.lag(project.start, point, at_least=found.least, at_most=found.most)
 
     def must_be_history(self, link: Link, own: dict[str, Activity]) -> None:
-        """A link to what is complete says nothing any more, and one to what has started is kept by what was done. Where it is
-        not, Primavera has the rest wait, by an option."""
+        """A link to what is complete says nothing any more, and one to what has started is kept by what was done.
+        Where it is not, Primavera has the rest wait, by an option."""
         document = self.document
         if document.is_complete(link.after):
             return
@@ -142,4 +144,5 @@ class Progress:
         end = self.start(link.after) + own[link.after].duration if link.to_end else self.now
         if not is_known or time + link.minutes // self.minutes > end:
             raise BadInput(f"{called(document.activities[link.after])}: it has started although its link from "
-                           f"{called(document.activities[link.before])} is not kept; take the link away, or give it a lag")
+                           f"{called(document.activities[link.before])} is not kept; take the link away, or give it "
+                           "a lag")

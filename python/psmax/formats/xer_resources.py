@@ -61,11 +61,12 @@ class Needs:
                 spanning.append((task, resource))
             elif resource in known and document.remaining.get(task):
                 with document.kept():
-                    found.append((task, resource, self.units(task, resource, row)))
+                    units = self.units(task, resource, row)
+                    found += [(task, resource, units)] if units else []
         for task, resource in spanning:
             if any(resource == one for _, one, _ in found):
-                document.faults.append(f"{called(document.spanning[task])}: it needs {named(known[resource])} as long as "
-                                       "others take, and activities here have a duration of their own")
+                document.faults.append(f"{called(document.spanning[task])}: it needs {named(known[resource])} as long "
+                                       "as others take, and activities here have a duration of their own")
         return found
 
     def units(self, task: str, resource: str, row: Row) -> Fraction:
@@ -79,11 +80,11 @@ class Needs:
             raise BadInput(f"{name} has a curve, and units stay the same here")
         if cell(activity, "task_type") == "TT_Rsrc":
             self.must_have_hours(resource, name)
-        whole, each = (next((told for told in (number(row, f"{kind}{what}", name) for kind in ("remain_", "target_")) if told),
-                            None) for what in ("qty", "qty_per_hr"))
-        each = each if each is not None else whole / hours if whole is not None else None
-        if each is None:
+        whole, each = (next((told for told in (number(row, f"{kind}{what}", name) for kind in ("remain_", "target_"))
+                             if told is not None), None) for what in ("qty", "qty_per_hr"))
+        if whole is None and each is None:
             raise BadInput(f"{name} says no units")
+        each = Fraction(0) if whole == 0 else each or (whole or 0) / hours
         if each < 0 or whole is not None and abs(whole - each * hours) > max(NEAR * whole, NEAR):
             raise BadInput(f"{name} takes another time than the activity: {float(whole or 0):g} hours of work by "
                            f"{float(each):g} an hour, in {float(hours):g} hours")
@@ -104,7 +105,8 @@ class Needs:
         if any(count is None or count < 0 for _, count in told):
             raise BadInput(f"{called}: it has no greatest number of units by time (max_qty_per_hr)")
         begins = [None, *(at for at, _ in told[1:])]
-        return [(first, last, count or Fraction(0)) for first, last, (_, count) in zip(begins, [*begins[1:], None], told)]
+        ends = [*begins[1:], None]
+        return [(first, last, count or Fraction(0)) for first, last, (_, count) in zip(begins, ends, told)]
 
 
 def named(resource: Row) -> str:

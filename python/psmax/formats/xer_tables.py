@@ -1,5 +1,5 @@
-"""The tables of a .xer file, which Primavera P6 exports. A line is a table's name behind %T, the names of its columns behind
-%F, or a row's cells behind %R, with tabs between; %E ends the file."""
+"""The tables of a .xer file, which Primavera P6 exports. A line is a table's name behind %T, the names of its columns
+behind %F, or a row's cells behind %R, with tabs between; %E ends the file."""
 import datetime
 import re
 from fractions import Fraction

@@ -14,12 +14,13 @@ from .xer_limits import Progress
 from .xer_sign import MARK
 from .xer_tables import CELLS, COLUMNS, HOUR, LAST, TABLE, cell, read_tables
 
-REFUSED = ("Primavera has no maximum lags between activities, no absences, two constraints of an activity and one due date of "
-           "all; write this project as JSON")
+REFUSED = ("Primavera has no maximum lags between activities, no absences, at most two constraints of an activity, and "
+           "one due date for all; write this project as JSON")
 MOST_CONSTRAINTS = 2
 STAMP = "%Y-%m-%d %H:%M"
 # What has not started begins and ends then, by table; its assignments too, since they are as long.
-BEGINS = {"TASK": ("early_start_date", "target_start_date", "restart_date"), "TASKRSRC": ("target_start_date", "restart_date")}
+BEGINS = {"TASK": ("early_start_date", "target_start_date", "restart_date"),
+          "TASKRSRC": ("target_start_date", "restart_date")}
 FINISHES = {"TASK": ("early_end_date", "target_end_date", "reend_date"), "TASKRSRC": ("target_end_date", "reend_date")}
 UTF_16 = (b"\xff\xfe", b"\xfe\xff")
 Cells = Mapping[str, object]
@@ -40,11 +41,13 @@ def write(project: Parts) -> str:
     used = [one for one in project.resources if any(activity.demands.get(one) for activity in project.activities)]
     tables: dict[str, list[Cells]] = {
         "CALENDAR": [calendar_row(time)],
-        "PROJECT": [{"proj_id": 1, "proj_short_name": "PLAN", "export_flag": "Y", "clndr_id": 1, "plan_start_date": first,
-                     "plan_end_date": "" if ends is None else stamp(calendar.ended(ends)), "last_recalc_date": first}],
-        "PROJWBS": [{"wbs_id": 1, "proj_id": 1, "proj_node_flag": "Y", "wbs_short_name": "PLAN", "wbs_name": project.name}],
-        "RSRC": [{"rsrc_id": one.number + 1, "clndr_id": 1, "rsrc_short_name": f"R{one.number + 1}", "rsrc_name": one.name,
-                  "rsrc_type": "RT_Labor"} for one in used],
+        "PROJECT": [{"proj_id": 1, "proj_short_name": "PLAN", "export_flag": "Y", "clndr_id": 1,
+                     "plan_start_date": first, "last_recalc_date": first,
+                     "plan_end_date": "" if ends is None else stamp(calendar.ended(ends))}],
+        "PROJWBS": [{"wbs_id": 1, "proj_id": 1, "proj_node_flag": "Y", "wbs_short_name": "PLAN",
+                     "wbs_name": project.name}],
+        "RSRC": [{"rsrc_id": one.number + 1, "clndr_id": 1, "rsrc_short_name": f"R{one.number + 1}",
+                  "rsrc_name": one.name, "rsrc_type": "RT_Labor"} for one in used],
         "RSRCRATE": [{"rsrc_rate_id": one.number + 1, "rsrc_id": one.number + 1, "max_qty_per_hr": one.capacity,
                       "start_date": first} for one in used],
         "TASK": [task(project, activity, calendar, minutes) for activity in project.activities],
@@ -108,11 +111,12 @@ def link(number: int, lag: Lag, minutes: int) -> Cells:
 
 
 def assignments(project: Parts, minutes: int) -> Iterable[Cells]:
-    pairs = ((activity, one, units) for activity in project.activities for one, units in activity.demands.items() if units)
+    pairs = ((activity, one, units) for activity in project.activities
+             for one, units in activity.demands.items() if units)
     for number, (activity, one, units) in enumerate(pairs, 1):
         whole = hours(units * activity.duration * minutes)
-        yield {"taskrsrc_id": number, "task_id": activity.number, "proj_id": 1, "rsrc_id": one.number + 1, "remain_qty": whole,
-               "target_qty": whole, "remain_qty_per_hr": units, "target_qty_per_hr": units}
+        yield {"taskrsrc_id": number, "task_id": activity.number, "proj_id": 1, "rsrc_id": one.number + 1,
+               "remain_qty": whole, "target_qty": whole, "remain_qty_per_hr": units, "target_qty_per_hr": units}
 
 
 def replanned(data: bytes, schedule: Schedule) -> bytes:
@@ -140,7 +144,8 @@ def replanned(data: bytes, schedule: Schedule) -> bytes:
 
 def times_of(document: Document, schedule: Schedule) -> dict[str, tuple[str, str]]:
     """When what has not started begins and ends; and the end of the project, by no ID."""
-    calendar, numbers, found, last = Progress(document).calendar, schedule.project.numbers(), dict[str, tuple[str, str]](), ""
+    calendar, numbers = Progress(document).calendar, schedule.project.numbers()
+    found, last = dict[str, tuple[str, str]](), ""
     for number, (uid, row) in enumerate(document.activities.items(), 1):
         start, end = schedule.starts[number], schedule.starts[number] + numbers.durations[number]
         last = max(last, stamp(calendar.span(start, end)[1]))
