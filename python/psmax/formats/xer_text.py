@@ -38,6 +38,7 @@ def write(project: Parts) -> str:
     calendar, minutes = time.calendar(), minutes_of(time.period)
     first, ends = stamp(calendar.begins(0)), next(iter(due), None)
     links = [lag for lag in project.lags if lag.before != project.start]
+    limits = limits_of(project)
     used = [one for one in project.resources if any(activity.demands.get(one) for activity in project.activities)]
     tables: dict[str, list[Cells]] = {
         "CALENDAR": [calendar_row(time)],
@@ -50,7 +51,7 @@ def write(project: Parts) -> str:
                   "rsrc_name": one.name, "rsrc_type": "RT_Labor"} for one in used],
         "RSRCRATE": [{"rsrc_rate_id": one.number + 1, "rsrc_id": one.number + 1, "max_qty_per_hr": one.capacity,
                       "start_date": first} for one in used],
-        "TASK": [task(project, activity, calendar, minutes) for activity in project.activities],
+        "TASK": [task(project, activity, limits.get(activity, []), calendar, minutes) for activity in project.activities],
         "TASKPRED": [link(number, lag, minutes) for number, lag in enumerate(links, 1)],
         "TASKRSRC": list(assignments(project, minutes)),
     }
@@ -60,6 +61,15 @@ def write(project: Parts) -> str:
             lines += ["\t".join(row) for row in ([TABLE, name], [COLUMNS, *rows[0]], *([CELLS, *map(str, row.values())]
                                                                                        for row in rows))]
     return "\r\n".join([*lines, LAST, ""])
+
+
+def limits_of(project: Parts) -> dict[Activity, list[Lag]]:
+    """The lags from the project's start to each activity."""
+    found: dict[Activity, list[Lag]] = {}
+    for lag in project.lags:
+        if lag.before == project.start:
+            found.setdefault(lag.after.activity, []).append(lag)
+    return found
 
 
 def stamp(moment: datetime.datetime) -> str:
@@ -75,12 +85,11 @@ def calendar_row(time: WorkTime) -> Cells:
             "clndr_data": calendar_data(time.workdays or "mon-sun", time.shift or "", time.free_days)}
 
 
-def task(project: Parts, activity: Activity, calendar: Calendar, minutes: int) -> Cells:
-    limits = [one for lag in project.lags if lag.before == project.start and lag.after.activity is activity
-              for one in constraints(lag, calendar)]
-    if len(limits) > MOST_CONSTRAINTS:
+def task(project: Parts, activity: Activity, limits: Iterable[Lag], calendar: Calendar, minutes: int) -> Cells:
+    told = [one for lag in limits for one in constraints(lag, calendar)]
+    if len(told) > MOST_CONSTRAINTS:
         raise BadInput(REFUSED)
-    (kind, date), (second_kind, second_date) = [*limits, ("", ""), ("", "")][:MOST_CONSTRAINTS]
+    (kind, date), (second_kind, second_date) = [*told, ("", ""), ("", "")][:MOST_CONSTRAINTS]
     length = hours(activity.duration * minutes)
     return {"task_id": activity.number, "proj_id": 1, "wbs_id": 1, "clndr_id": 1,
             "task_code": project.ids.get(activity.number) or f"A{10 * activity.number:05}", "task_name": activity.name,
@@ -144,10 +153,10 @@ def replanned(data: bytes, schedule: Schedule) -> bytes:
 
 def times_of(document: Document, schedule: Schedule) -> dict[str, tuple[str, str]]:
     """When what has not started begins and ends; and the end of the project, by no ID."""
-    calendar, numbers = Progress(document).calendar, schedule.project.numbers()
+    calendar, durations, starts = Progress(document).calendar, schedule.project.numbers().durations, schedule.starts
     found, last = dict[str, tuple[str, str]](), ""
     for number, (uid, row) in enumerate(document.activities.items(), 1):
-        start, end = schedule.starts[number], schedule.starts[number] + numbers.durations[number]
+        start, end = starts[number], starts[number] + durations[number]
         last = max(last, stamp(calendar.span(start, end)[1]))
         begins, ends = calendar.span(start, end, cell(row, "task_type") == "TT_Mile")
         if uid not in document.begun:
@@ -161,7 +170,7 @@ def new_dates(name: str, row: Mapping[str, str], times: Mapping[str, tuple[str, 
         return {}
     if name == "PROJECT":
         return {"scd_end_date": times[""][1]}
-    if name not in BEGINS or row.get("task_id", "") not in {*times} - {""}:
+    if name not in BEGINS or not row.get("task_id") or row["task_id"] not in times:
         return {}
     begins, ends = times[row["task_id"]]
     return dict.fromkeys(BEGINS[name], begins) | dict.fromkeys(FINISHES[name], ends)
