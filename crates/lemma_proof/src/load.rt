@@ -1,8 +1,8 @@
 //! When the reason `load` ends a block.
 
-ghost use Rattle.std.specs.Prelude.{◌≡◌, ◌↔◌, ◌<◌, ◌≤◌, List, length, IsTrue};
+ghost use Rattle.std.specs.Prelude.{◌≡◌, ◌↔◌, ◌<◌, ◌≤◌, ◌*◌, List, length, IsTrue};
 ghost use Rattle.network.specs.declared.parts.Lag.{Lag};
-ghost use Rattle.network.specs.Problem.{IsTime, activities, activity_count, resource_count};
+ghost use Rattle.network.specs.Problem.{IsTime, activities, activity_count, demand, resource_count};
 ghost use Rattle.lemma_proof.specs.Reasons.{IsLoad, part_of, load_of, TellsWhether};
 
 use crate::weights::Weights;
@@ -27,6 +27,30 @@ fn part(project: &Project, weights: &Weights, from: i64, to: i64, activity: usiz
     early.min(to + back).max(0).unsigned_abs()
 }
 
+/// What an activity asks of a resource in the window at least.
+fn amount(
+    project: &Project,
+    weights: &Weights,
+    resource: usize,
+    from: i64,
+    to: i64,
+    activity: usize,
+) -> u64
+    requires size { length weights.now.rows ≡ activity_count project.now }
+    requires resource { resource < resource_count project.now }
+    requires activity { activity < activity_count project.now }
+    requires from_time { IsTime from }
+    requires to_time { IsTime to }
+    ensures value { result ≡ part_of project.now weights.now.rows from to activity * demand project.now resource activity }
+    ensures small { result ≤ 1_000_000_000_000 }
+{
+    let demand = project.demand(resource, activity);
+    if demand == 0 {
+        return 0;
+    }
+    part(project, weights, from, to, activity) * demand
+}
+
 /// What all activities ask of a resource in the window at least.
 fn load(project: &Project, weights: &Weights, resource: usize, from: i64, to: i64) -> u64
     requires size { length weights.now.rows ≡ activity_count project.now }
@@ -37,8 +61,7 @@ fn load(project: &Project, weights: &Weights, resource: usize, from: i64, to: i6
 {
     let mut total = 0;
     for activity in 0..project.activity_count() {
-        let part = part(project, weights, from, to, activity);
-        total += part * project.demand(resource, activity);
+        total += amount(project, weights, resource, from, to, activity);
     }
     total
 }
