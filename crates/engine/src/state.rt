@@ -17,8 +17,8 @@ pub struct Options {
     pub most: i32,
     /// Whether the log of its proof is kept.
     pub has_log: bool,
-    /// Whether it looks at cliques.
-    pub has_cliques: bool,
+    /// Whether it looks at cliques and energy too. These help to refute: a search for any schedule goes without.
+    pub is_thorough: bool,
     /// Shakes the first weights.
     pub seed: u64,
     /// Where its lemmas go.
@@ -136,9 +136,9 @@ fn cliques_of<'a>(
     instance: &'a Instance,
     settled: &Settled,
     edges: &Edges,
-    has_cliques: bool,
+    is_thorough: bool,
 ) -> Result<Cliques<'a>> {
-    let found = match has_cliques {
+    let found = match is_thorough {
         true => greedy_cliques(instance, &settled.walks)?,
         false => Rows::new(instance.alloc, 0),
     };
@@ -175,9 +175,10 @@ fn propagators_of<'a>(
     options: Options,
 ) -> Result<Propagators<'a>> {
     let edges = Edges::new(instance, settled)?;
-    let cliques = cliques_of(instance, settled, &edges, options.has_cliques)?;
+    let cliques = cliques_of(instance, settled, &edges, options.is_thorough)?;
     let table = TimeTable::new(instance, resources)?;
-    let energy = Energy::new(instance, resources)?;
+    let looked_at = if options.is_thorough { resources } else { &[] };
+    let energy = Energy::new(instance, looked_at)?;
     let values = first_values(instance, settled, options.most)?;
     Ok(Propagators {
         trail: Trail::new(instance.alloc, values)?,

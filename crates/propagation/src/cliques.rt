@@ -357,7 +357,7 @@ impl<'a> Cliques<'a> {
     }
 
     /// The windows of a clique are as they are now.
-    pub(crate) fn renew(&mut self, trail: &Trail, clique: u32) {
+    fn renew(&mut self, trail: &Trail, clique: u32) {
         renew_all(self.windows.row_mut(clique), trail, false);
         renew_all(self.turned.row_mut(clique), trail, true);
     }

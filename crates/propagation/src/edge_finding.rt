@@ -35,7 +35,7 @@ impl Filled {
 }
 
 impl Cliques<'_> {
-    /// Looks for edges where bounds moved.
+    /// Looks for edges where bounds moved. All else has followed, so windows are as they are now.
     pub fn find_edges(&mut self, trail: &mut Trail, edges: &Edges) -> Result<(), Stop> {
         for _ in 0..u64::MAX {
             let Some(clique) = self.later.pop() else {
@@ -43,7 +43,6 @@ impl Cliques<'_> {
             };
             let rises = mem::replace(&mut self.rises[clique], NO_RISES);
             if self.pays[clique].take_chance() {
-                self.renew(trail, clique);
                 let found = self.find_edges_of(trail, edges, clique, rises);
                 self.pays[clique].note_look(1, found.is_err());
                 found?;

@@ -9,8 +9,8 @@ pub(crate) struct Role {
     pub(crate) probes: f64,
 }
 
-/// By number of the job; the fifth is like the first, and so on. Of eight projects with two seeds four jobs took the seconds
-/// of one by 2.35, and by 1.96 where all were alike.
+/// By the number of the job; the fifth is like the first, and so on. On eight projects with two seeds each, four such jobs
+/// were 2.35 times as fast as one, and 1.96 times where all were alike (a trial before the port).
 const ROLES: [Role; 4] = [
     Role {
         near: 1.0,
