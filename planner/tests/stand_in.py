@@ -38,6 +38,11 @@ def pairs(text: str) -> dict[str, Any]:
     return {"bound": 0, "starts": [*(sum(days[job % 2 : job : 2]) for job in range(count + 1)), max(ends)]}
 
 
+def project(options: dict[str, str]) -> str:
+    with open(options["--project"]) as file:
+        return file.read()
+
+
 def wait(options: dict[str, str]) -> None:
     """Waits for the file that ends a search, or for the limit of seconds."""
     end = time.monotonic() + float(options["--seconds"])
@@ -57,7 +62,7 @@ def main(path: str, *words: str) -> None:
     options = dict(zip(words, words[1:]))
     if story["then"] == "waits":
         wait(options)
-    told = answer(pairs(sys.stdin.read()) if story["then"] == "pairs" else story.get("answer", story["tells"][-1]))
+    told = answer(pairs(project(options)) if story["then"] == "pairs" else story.get("answer", story["tells"][-1]))
     print(json.dumps(told), flush=True)
     time.sleep(story.get("record", 0))
     with open(options["--record"], "w") as file:

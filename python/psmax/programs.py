@@ -8,7 +8,8 @@ import shutil
 import subprocess
 import tempfile
 import time
-from collections.abc import Callable, Sequence
+from collections.abc import Callable, Iterator, Sequence
+from contextlib import contextmanager
 from typing import IO
 
 from .clock import Clock
@@ -16,6 +17,7 @@ from .errors import BadInput, Failed, TimeUp
 from .process import Lines, Process, tied
 
 SECONDS = 600.0  # the most that a program may take for an answer that no search is needed for
+Given = bytes | pathlib.Path | None  # what a program reads: bytes, a file, or nothing as long as this process runs
 INSIDE = "bin"  # the folder of the programs in the package, where it was installed from a wheel
 
 
@@ -37,14 +39,21 @@ def find_program(name: str) -> str:
     return found
 
 
-def given_file(given: bytes | pathlib.Path) -> IO[bytes]:
-    """What a program reads: a file that is there, or one of these bytes."""
+@contextmanager
+def given_file(given: Given) -> Iterator[IO[bytes]]:
+    """What a program reads: a file that is there, one of these bytes, or a pipe that ends where this process does."""
     if isinstance(given, pathlib.Path):
-        return open(given, "rb")
-    file = tempfile.TemporaryFile()
-    file.write(given)
-    file.seek(0)
-    return file
+        with open(given, "rb") as file:
+            yield file
+    elif given is not None:
+        with tempfile.TemporaryFile() as file:
+            file.write(given)
+            file.seek(0)
+            yield file
+    else:
+        read, write = os.pipe()
+        with open(read, "rb") as file, open(write, "wb"):
+            yield file
 
 
 class Program:
@@ -64,10 +73,10 @@ class Program:
     def odd(self, job: str) -> Failed:
         return Failed(f"{self.path} {job} gave an answer that plan does not know; is it {self.name}?")
 
-    def call(self, arguments: Sequence[str], given: bytes | pathlib.Path, seconds: float = SECONDS,
+    def call(self, arguments: Sequence[str], given: Given, seconds: float = SECONDS,
              hear: Callable[[str], None] = lambda line: None, until: str | None = None) -> tuple[int, bytes]:
-        """The exit status of a call that answered within these seconds, and its output, or else what it told. It is given
-        bytes or a file. Each line that it tells is heard, and one of JSON is no fault. The file `until` asks it to end."""
+        """The exit status of a call that answered within these seconds, and its output, or else what it told. Each line
+        that it tells is heard, and one of JSON is no fault. The file `until` asks it to end."""
         status, out, told = self._run(arguments, given, seconds, hear, until)
         told = b"".join(line for line in told.splitlines(True) if not line.startswith(b"{"))
         lines = told.decode("utf-8", "replace").strip().splitlines()
@@ -94,7 +103,7 @@ class Program:
         status, out = self.judge("verify", project, record, math.inf)
         return status, out.decode("utf-8", "replace").strip().removeprefix(f"{self.name}: ")
 
-    def _run(self, arguments: Sequence[str], given: bytes | pathlib.Path, seconds: float, hear: Callable[[str], None],
+    def _run(self, arguments: Sequence[str], given: Given, seconds: float, hear: Callable[[str], None],
              until: str | None) -> tuple[int, bytes, bytes]:
         if self.clock.stopped:
             raise TimeUp

@@ -63,13 +63,16 @@ class Psprove(Program):
             raise TimeUp
         spelled = ProjectText(project)
         with tempfile.TemporaryDirectory(prefix="plan-") as folder:
-            record, first, end = (os.path.join(folder, name) for name in ("record", "start", "end"))
-            arguments = ["solve", "--json", "--progress", "json", *limits.arguments(), "--until", end, "--record", record]
+            text, record, first, end = (os.path.join(folder, name) for name in ("project", "record", "start", "end"))
+            with open(text, "wb") as file:
+                file.write(spelled.text)
+            arguments = ["solve", "--json", "--progress", "json", *limits.arguments(), "--until", end, "--record", record,
+                         "--project", text, "--follow"]
             if start is not None and spelled.has(start):
                 with open(first, "wb") as file:
                     file.write(starts_text(spelled.inward(start)))
                 arguments += ["--start", first]
-            _, out = self.call(arguments, spelled.text, limits.seconds, lambda line: self.heard(line, spelled, hear), end)
+            _, out = self.call(arguments, None, limits.seconds, lambda line: self.heard(line, spelled, hear), end)
             try:
                 return of_answer(out, record, spelled)
             except ODD:

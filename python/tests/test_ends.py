@@ -9,7 +9,7 @@ import unittest
 from collections.abc import Callable
 from unittest import mock
 
-from planner.tests.helpers import CALLED, PLAN, TOP, TWO, InFolder
+from planner.tests.helpers import CALLED, PLAN, PSPROVE, TOP, TWO, InFolder, job_shop
 from psmax.process import tied
 
 PATIENCE = 30.0  # seconds in which a process has to end on a machine that does other work too
@@ -60,13 +60,13 @@ class Ends(InFolder):
     def setUp(self) -> None:
         super().setUp()
         self.pid = self.folder / "pid"
-        begin = f"echo $$ > {self.pid}.new\nmv {self.pid}.new {self.pid}\n"
-        self.sleeps = self.program("sleeps", f"{begin}exec sleep 60")
+        self.begin = f"echo $$ > {self.pid}.new\n/bin/mv {self.pid}.new {self.pid}\n"
+        self.sleeps = self.program("sleeps", f"{self.begin}exec sleep 60")
 
-    def left(self, words: list[str], ends: Callable[[subprocess.Popen[bytes]], None]) -> None:
+    def left(self, words: list[str], ends: Callable[[subprocess.Popen[bytes]], None], **env: str) -> None:
         """Starts a command, ends it once psprove runs, and has no psprove left."""
         self.pid.unlink(missing_ok=True)
-        env = {**os.environ, **CALLED, "PSPROVE": self.sleeps, "PYTHONPATH": str(TOP / "python")}
+        env = {**os.environ, **CALLED, "PSPROVE": self.sleeps, "PYTHONPATH": str(TOP / "python"), **env}
         with subprocess.Popen(words, env=env, stdout=subprocess.DEVNULL, stderr=subprocess.DEVNULL,
                               preexec_fn=lambda: signal.signal(signal.SIGINT, signal.default_int_handler)) as child:
             until = time.monotonic() + PATIENCE
@@ -87,6 +87,14 @@ class Ends(InFolder):
         for script, ends in calls:
             with self.subTest(script.removeprefix(BEGIN), ends=ends):
                 self.left([sys.executable, "-c", script, str(TWO), str(self.pid)], ends)
+
+    def test_by_a_pipe(self) -> None:
+        """Where there is no `setpriv`, a search ends since its standard input does."""
+        psprove, project = self.program("psprove", f'{self.begin}exec {PSPROVE} "$@"'), self.file("shop.sch", job_shop())
+        calls = (SOLVE, end(signal.SIGKILL)), (SOLVE, end(signal.SIGTERM)), (POOL, wait)
+        for script, ends in calls:
+            with self.subTest(script.removeprefix(BEGIN), ends=ends):
+                self.left([sys.executable, "-c", script, str(project), str(self.pid)], ends, PSPROVE=psprove, PATH="")
 
     def test_plan(self) -> None:
         """Also the searches of a batch, which are processes of their own."""
