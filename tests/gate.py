@@ -38,6 +38,7 @@ import lint
 import log_parts
 import logs
 import long_records
+import losses
 import options
 import planted
 import psmax_options
@@ -132,6 +133,8 @@ def scripts(folder: pathlib.Path, with_tests: bool) -> Iterator[Script]:
     else:
         print("left out, for want of a C compiler: refused allocations, threads, and allocations of lists of events")
         yield "events", events.verdicts, [book_events, "--refused", "0"]
+    yield "files that would be lost", losses.verdicts, [psmax]
+    yield "files that would be lost, of psprove", losses.verdicts, [psprove, "--proofs"]
     yield "devices", devices.verdicts, [psmax]
     yield "devices of psprove", devices.verdicts, [psprove, "--proofs"]
     yield "long records that fail", long_records.verdicts, [psprove]

@@ -120,7 +120,7 @@ def same_file(trial: Trial) -> str | None:
     (trial.folder / "run.log.part").write_bytes(OLD)
     ended = trial.solve("--resume", "run.log.part")
     kept = (trial.folder / "run.log.part").read_bytes() == OLD
-    said = (2, b"", b"error: --resume and --record name the same file\n")
+    said = (2, b"", b"error: --resume and the part of --record name the same file\n")
     return None if ended == said and kept else f"ends with {ended}; the log is whole: {kept}"
 
 

@@ -1,7 +1,7 @@
 //! What both programs do around a call: they read its words, and print why it has no answer.
 
 use crate::arguments::ArgumentsFault;
-use devices::{Ended, Fault, FileFault, FileNames};
+use devices::{CallFile, Ended, Fault, FileFault, FileNames};
 use std::env::{self, Env};
 use std::io::ErrorKind;
 use std::process::ExitCode;
@@ -38,33 +38,60 @@ pub fn refuse<R: Runtime>(rt: &R, program: &str, fault: &ArgumentsFault) -> Exit
     }
 }
 
-/// Prints that two words name one file.
-fn refuse_loss<R: Eprint>(rt: &R, reads: &str) -> ExitCode {
-    let _ = eprintln!(rt; "error: {reads} and --record name the same file");
-    ExitCode::from(2)
+/// What a file of a call is called in faults.
+fn word(names: &FileNames<'_>, file: CallFile) -> &'static str {
+    match file {
+        CallFile::Input => "standard input",
+        CallFile::Second => names.second_option,
+        CallFile::Project => "--project",
+        CallFile::Resume => "--resume",
+        CallFile::Tree => "--tree",
+        CallFile::Cube => "a file in --tree",
+        CallFile::Path => "--under",
+        CallFile::Guide => "--guide",
+        CallFile::Import => "--import",
+        CallFile::Until => "--until",
+        CallFile::Answer => "standard output",
+        CallFile::RecordFile if names.record_name.is_some() => "the part of --record",
+        CallFile::RecordFile | CallFile::Record => "--record",
+        CallFile::Export => "--export",
+    }
 }
 
 /// Prints that a file can't be opened.
-pub fn refuse_file<R: Eprint>(rt: &R, program: &str, name: Option<&String>) -> ExitCode {
-    if let Some(name) = name {
-        let _ = eprintln!(rt; "{program}: cannot open {name}");
-    }
+pub fn refuse_file<R: Eprint>(rt: &R, program: &str, name: &str) -> ExitCode {
+    let _ = eprintln!(rt; "{program}: cannot open {name}");
     ExitCode::from(1)
+}
+
+/// Prints that a part of a record is there, and how to go on from it.
+fn refuse_part<R: Eprint>(rt: &R, part: &str) -> ExitCode {
+    let _ = eprintln!(rt; "error: {part} is there: a search left it, or writes it now");
+    let _ = eprintln!(rt;
+        "hint: go on from it by --resume {part} and another --record, or delete it"
+    );
+    ExitCode::from(2)
 }
 
 /// Prints why the files of a call are not open.
 pub fn refuse_files<R: Eprint>(
     rt: &R,
     program: &str,
-    names: &FileNames,
+    names: &FileNames<'_>,
     fault: FileFault,
 ) -> ExitCode {
     match fault {
-        FileFault::LosesProject => refuse_loss(rt, "standard input"),
-        FileFault::LosesStarts => refuse_loss(rt, "--start"),
-        FileFault::LosesAnswer => refuse_loss(rt, "standard output"),
-        FileFault::Second => refuse_file(rt, program, names.second.as_ref()),
-        FileFault::Record => refuse_file(rt, program, names.record_file.as_ref()),
+        FileFault::Same(one, other) => {
+            let (one, other) = (word(names, one), word(names, other));
+            let _ = eprintln!(rt; "error: {one} and {other} name the same file");
+            ExitCode::from(2)
+        }
+        FileFault::Part => refuse_part(rt, names.record_file.unwrap_or("")),
+        FileFault::Second => refuse_file(rt, program, names.second.unwrap_or("")),
+        FileFault::Record => {
+            let name = names.record_name.or(names.record_file);
+            refuse_file(rt, program, name.unwrap_or(""))
+        }
         FileFault::Memory => report(rt, program, &Ended::with(Fault::Memory)),
     }
 }

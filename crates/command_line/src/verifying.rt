@@ -3,12 +3,11 @@
 use crate::arguments::{ArgumentsFault, file_name};
 use crate::help;
 use crate::options::{flag, project_subcommand};
-use crate::program::{refuse_file, report};
+use crate::program::{refuse_files, report};
 use clap::{Arg, ArgAction, ArgMatches, Command};
-use devices::{Ended, Fault, InputReader, OutputWriter};
+use devices::{FileNames, InputReader, Opener, OutputWriter};
 use std::alloc::{AllocError, Global};
-use std::fs;
-use std::io::{self, ErrorKind};
+use std::io;
 use std::process::ExitCode;
 use std::rt::Runtime;
 use verify_run::{LogPart, RecordKind, Scope, run_verify};
@@ -84,15 +83,24 @@ pub fn verify<R: Runtime>(
     own: RecordKind,
     call: &VerifyCall,
 ) -> ExitCode {
-    let mut second = match fs::open(rt, call.project.as_str()) {
-        Ok(file) => InputReader::new(file),
-        Err(error) if error.kind() == ErrorKind::OutOfMemory => {
-            return report(rt, program, &Ended::with(Fault::Memory));
-        }
-        Err(_) => return refuse_file(rt, program, Some(&call.project)),
+    let names = FileNames {
+        second: Some(call.project.as_str()),
+        second_option: "--project",
+        ..FileNames::none()
+    };
+    let mut files = match Opener::new(alloc, rt).open(&names) {
+        Ok(files) => files,
+        Err(fault) => return refuse_files(rt, program, &names, fault),
     };
     let mut input = InputReader::new(rt.reader());
     let mut out = OutputWriter::new(io::writer(rt));
-    let ended = run_verify(alloc, &call.scope, own, &mut input, &mut second, &mut out);
+    let ended = run_verify(
+        alloc,
+        &call.scope,
+        own,
+        &mut input,
+        &mut files.second,
+        &mut out,
+    );
     report(rt, program, &ended)
 }

@@ -1,3 +1,4 @@
 pub mod TextLaws
 pub mod Endings
 pub mod Acts
+pub mod Cubes

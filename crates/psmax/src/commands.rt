@@ -4,7 +4,7 @@ ghost use Rattle.std.specs.Prelude.{◌≡◌, true, false, IfOk, IfSome};
 ghost use Rattle.psmax.specs.Calls.{IsCall, IsPsmaxCall};
 ghost use Rattle.psmax_run.specs.Jobs.{IsJob, reads_second, writes_record};
 
-use crate::call::{Call, PsmaxCall};
+use crate::call::{Call, JobNames, PsmaxCall};
 use crate::help;
 use book::{MAX_WORKERS, are_allowed};
 use clap::{ArgMatches, Command};
@@ -12,7 +12,6 @@ use command_line::{
     ArgumentsFault, file, file_name, flag, heading, matches_of, number, program_command,
     project_subcommand, subcommand, verify_call, verify_command,
 };
-use devices::FileNames;
 use plain_search::MAX_EXPANDED;
 use psmax_run::{Job, ONE_WORKER, SearchOptions};
 use std::alloc::{AllocError, Global};
@@ -60,7 +59,7 @@ fn earliest_call() -> Call
 {
     Call {
         job: Job::Earliest,
-        names: FileNames {
+        names: JobNames {
             second: None,
             record_file: None,
         },
@@ -86,7 +85,7 @@ fn solve_call(alloc: Global, matches: &ArgMatches<'_>) -> Result<Option<Call>, A
             json: matches.get_flag("json"),
             recorded: record_file.is_some(),
         }),
-        names: FileNames {
+        names: JobNames {
             second,
             record_file,
         },
@@ -102,7 +101,7 @@ fn check_call(alloc: Global, matches: &ArgMatches<'_>) -> Result<Option<Call>, A
     };
     Ok(Some(Call {
         job: Job::Check,
-        names: FileNames {
+        names: JobNames {
             second: Some(name),
             record_file: None,
         },
@@ -114,7 +113,7 @@ fn tidy_call() -> Call
 {
     Call {
         job: Job::Tidy,
-        names: FileNames {
+        names: JobNames {
             second: None,
             record_file: None,
         },

@@ -33,9 +33,10 @@ fn perform<R: Runtime>(rt: &R, alloc: Global, call: &Call) -> ExitCode
     requires call { IsCall call.now }
     requires alone { has_workers call.now.job ≡ false }
 {
-    let mut files = match Opener::new(rt).open(&call.names) {
+    let names = call.file_names();
+    let mut files = match Opener::new(alloc, rt).open(&names) {
         Ok(files) => files,
-        Err(fault) => return refuse_files(rt, PROGRAM, &call.names, fault),
+        Err(fault) => return refuse_files(rt, PROGRAM, &names, fault),
     };
     let mut input = InputReader::new(rt.reader());
     let mut out = OutputWriter::new(io::writer(rt));
@@ -53,9 +54,10 @@ fn search<R: Runtime + Threads + Wait + Sync>(
     requires job { IsJob (jobs.Solve options) }
     requires workers { has_workers (jobs.Solve options) ≡ true }
 {
-    let mut files = match Opener::new(rt).open(&call.names) {
+    let names = call.file_names();
+    let mut files = match Opener::new(alloc, rt).open(&names) {
         Ok(files) => files,
-        Err(fault) => return refuse_files(rt, PROGRAM, &call.names, fault),
+        Err(fault) => return refuse_files(rt, PROGRAM, &names, fault),
     };
     let mut input = InputReader::new(rt.reader());
     let mut out = OutputWriter::new(io::writer(rt));

@@ -1,5 +1,6 @@
 //! The search of a cube: its files and its answer.
 
+use crate::PROGRAM;
 use crate::failure::Failure;
 use crate::files::bytes_of;
 use crate::following::Heard;
@@ -7,8 +8,9 @@ use crate::json_lines::cube_line;
 use crate::program::Program;
 use crate::record_file::RecordFile;
 use crate::reports::{ReportForm, Reporter};
+use command_line::refuse_files;
 use cube_text::{CubeLemma, lemmas_of, path_of};
-use devices::{Ended, Fault, InputReader, Judged, Opener, judged_starts, read_project};
+use devices::{Ended, Fault, FileNames, InputReader, Judged, Opener, judged_starts, read_project};
 use network::{Lag, Project, Schedule};
 use session::{Cube, CubeResult, Limits, search_cube};
 use std::alloc::Global;
@@ -107,25 +109,33 @@ fn answer<'w, R: Runtime>(
     Ok(if found.is_refuted { 0 } else { 3 })
 }
 
-/// That no file which is read is written over.
-fn check_losses<'w, R: Files>(
+/// The names of the files of a call.
+fn names_of<'a>(call: &'a CubeCall, record: &'a RecordFile) -> FileNames<'a> {
+    record.join(FileNames {
+        second: call.start.as_deref(),
+        second_option: "--start",
+        project: Some(call.project.as_str()),
+        path: Some(call.path.as_str()),
+        guide: call.guide.as_deref(),
+        import: call.import.as_deref(),
+        until: call.until.as_deref(),
+        export: call.export.as_deref(),
+        ..FileNames::none()
+    })
+}
+
+/// Makes the file of the log.
+fn make_log<'w, R: Files + Eprint>(
     rt: &R,
+    alloc: Global,
     call: &'w CubeCall,
-    record: &RecordFile<'_>,
-) -> Result<(), Failure<'w>> {
-    let more = [&call.start, &call.guide, &call.import];
-    let more = more.iter().filter_map(|name| name.as_ref());
-    for name in [&call.project, &call.path].iter().copied().chain(more) {
-        let export = call.export.as_ref();
-        let is_export = export.is_some_and(|export| Opener::new(rt).is_one_file(
-            name.as_str(),
-            export,
-        ));
-        if is_export || record.loses(rt, name.as_str()) {
-            return Err(Failure::Lost(name));
-        }
+    names: &FileNames<'_>,
+) -> Result<R::File, Failure<'w>> {
+    match Opener::new(alloc, rt).open_record(names) {
+        Ok(Some(file)) => Ok(file.into_inner()),
+        Ok(None) => Err(Failure::File(&call.record)),
+        Err(fault) => Err(Failure::Printed(refuse_files(rt, PROGRAM, names, fault))),
     }
-    Ok(())
 }
 
 /// Searches, with the log in its file.
@@ -134,7 +144,7 @@ fn search_into<'w, R: Runtime + Wait>(
     alloc: Global,
     call: &'w CubeCall,
     cube: Cube<'_>,
-    record: &RecordFile<'_>,
+    file: &mut R::File,
     heard: &'w Mutex<Heard>,
 ) -> Result<CubeResult, Failure<'w>> {
     let mut program = Program {
@@ -146,22 +156,21 @@ fn search_into<'w, R: Runtime + Wait>(
         wrong_event: None,
         cubes: Vec::new(alloc),
         folder: "",
+        files: Vec::new(alloc),
         reporter: Reporter::new(ReportForm::Nothing),
     };
-    let file = fs::create(rt, record.first_name());
-    let mut file = file.map_err(|error| Failure::of_file(&error, &call.record))?;
-    let found = search_cube(rt, alloc, cube, call.limits, &mut program, &mut file);
+    let found = search_cube(rt, alloc, cube, call.limits, &mut program, file);
     found.map_err(|fault| Failure::of_cube(fault, &call.path))
 }
 
-/// Searches a cube, and answers. The exit status.
+/// Searches a cube, and answers. The exit status, and the file of the log.
 fn search<'w, R: Runtime + Wait>(
     rt: &'w R,
     alloc: Global,
     call: &'w CubeCall,
-    record: &RecordFile<'_>,
+    record: &RecordFile,
     heard: &'w Mutex<Heard>,
-) -> Result<u8, Failure<'w>> {
+) -> Result<(u8, R::File), Failure<'w>> {
     let project = project_of(rt, alloc, &call.project)?;
     let start = schedule_of(rt, alloc, &project, call.start.as_ref())?;
     let guide = schedule_of(rt, alloc, &project, call.guide.as_ref())?;
@@ -175,8 +184,14 @@ fn search<'w, R: Runtime + Wait>(
         lemmas: &lemmas,
         pieces: call.pieces,
     };
-    let found = search_into(rt, alloc, call, cube, record, heard)?;
-    answer(rt, alloc, call, &found)
+    let mut file = make_log(rt, alloc, call, &names_of(call, record))?;
+    match search_into(rt, alloc, call, cube, &mut file, heard) {
+        Ok(found) => Ok((answer(rt, alloc, call, &found)?, file)),
+        Err(failure) => {
+            record.leave(rt);
+            Err(failure)
+        }
+    }
 }
 
 /// Solves a cube. Its log takes its name once it is whole.
@@ -187,7 +202,10 @@ pub(crate) fn solve_cube<'w, R: Runtime + Wait>(
     heard: &'w Mutex<Heard>,
 ) -> Result<ExitCode, Failure<'w>> {
     let record = RecordFile::of(rt, alloc, &call.record)?;
-    check_losses(rt, call, &record)?;
-    let exit = search(rt, alloc, call, &record, heard)?;
-    Ok(record.settle(rt, &Ended { exit, fault: None }))
+    let names = names_of(call, &record);
+    if let Err(fault) = Opener::new(alloc, rt).check(&names) {
+        return Ok(refuse_files(rt, PROGRAM, &names, fault));
+    }
+    let (exit, file) = search(rt, alloc, call, &record, heard)?;
+    Ok(record.settle(rt, Some(file), &Ended { exit, fault: None }))
 }

@@ -2,9 +2,9 @@
 
 use crate::PROGRAM;
 use answers::Answer;
-use command_line::{refuse_file, refuse_files, report};
+use command_line::{refuse_file, report};
 use cube_text::TextFault;
-use devices::{Ended, Fault, FileFault, FileNames};
+use devices::{Ended, Fault};
 use session::CubeFault;
 use std::alloc::{AllocError, AllocFailed};
 use std::io::{self, ErrorKind, Write};
@@ -25,12 +25,8 @@ pub(crate) enum Failure<'w> {
     Arc(&'w String, usize),
     /// Starts are not a feasible schedule.
     Violated(Answer),
-    /// The file that is written is this one, which is read.
-    Lost(&'w String),
-    /// `--resume` and `--record` name one file.
-    LosesResumed,
-    /// The files of the call are not open.
-    Files(FileNames, FileFault),
+    /// It is printed already.
+    Printed(ExitCode),
 }
 
 impl From<AllocError> for Failure<'_> {
@@ -81,8 +77,8 @@ impl<'w> Failure<'w> {
     pub(crate) fn print<R: Runtime>(&self, rt: &R) -> ExitCode {
         match self {
             Failure::Fault(fault) => return report(rt, PROGRAM, &Ended::with(*fault)),
-            Failure::File(name) => return refuse_file(rt, PROGRAM, Some(*name)),
-            Failure::Files(names, fault) => return refuse_files(rt, PROGRAM, names, *fault),
+            Failure::File(name) => return refuse_file(rt, PROGRAM, name.as_str()),
+            Failure::Printed(status) => return *status,
             Failure::Line(name, line) => {
                 let _ = eprintln!(rt; "{PROGRAM}: {name}: line {line} has another form");
             }
@@ -94,12 +90,6 @@ impl<'w> Failure<'w> {
                 let number = place.saturating_add(1);
                 let what = "no bound of a start and no order of rivals";
                 let _ = eprintln!(rt; "{PROGRAM}: {name}: arc {number} is {what}");
-            }
-            Failure::Lost(name) => {
-                let _ = eprintln!(rt; "error: {name} is read, and would be written over");
-            }
-            Failure::LosesResumed => {
-                let _ = eprintln!(rt; "error: --resume and --record name the same file");
             }
             Failure::Violated(answer) => {
                 let _ = io::writer(rt).write_all(&answer.text);

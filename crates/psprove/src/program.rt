@@ -7,7 +7,7 @@ use crate::following::Heard;
 use crate::reports::{ReportForm, Reporter};
 use crate::solve::SolveCall;
 use cube_text::{CubeLemma, SearchedCube, TextFault, cubes_of, lemmas_of};
-use devices::Output;
+use devices::{Output, split_path};
 use lemma_record::Naming;
 use network::Project;
 use schedule_check::{StartsFault, read_starts, violations};
@@ -33,15 +33,32 @@ pub(crate) struct Program<'w, R> {
     /// The cubes whose logs are joined, and what stands before the names of their files.
     pub(crate) cubes: Vec<SearchedCube>,
     pub(crate) folder: &'w str,
+    /// The paths of these files.
+    pub(crate) files: Vec<String>,
     pub(crate) reporter: Reporter,
 }
 
-/// What stands before the name of a file in its path.
-fn folder_of(path: &str) -> &str {
-    match path.rfind('/') {
-        Some(place) => path.get(..=place).unwrap_or(""),
-        None => "",
+/// The path of a file in a folder.
+fn path_in(alloc: Global, folder: &str, name: &str) -> Result<String, AllocError> {
+    let mut path = String::from_str(alloc, folder)?;
+    path.push_str(name)?;
+    Ok(path)
+}
+
+/// The paths of the logs of cubes, and of the lemmas that they were given.
+fn paths_of(
+    alloc: Global,
+    folder: &str,
+    cubes: &[SearchedCube],
+) -> Result<Vec<String>, AllocError> {
+    let mut paths = Vec::new(alloc);
+    for cube in cubes {
+        paths.push(path_in(alloc, folder, cube.log.as_str())?)?;
+        if let Some(name) = &cube.lemmas {
+            paths.push(path_in(alloc, folder, name.as_str())?)?;
+        }
     }
+    Ok(paths)
 }
 
 /// The starts in a text, if they are a feasible schedule of the project.
@@ -69,10 +86,11 @@ impl<'w, R: Files + Wait + Eprint> Program<'w, R> {
         };
         let (mut cubes, mut folder) = (Vec::new(alloc), "");
         if let Some(name) = &call.tree {
-            folder = folder_of(name.as_str());
+            folder = split_path(name.as_str()).0;
             let found = cubes_of(alloc, &bytes_of(rt, alloc, name)?);
             cubes = found.map_err(|fault| Failure::of_text(fault, "the list of cubes"))?;
         }
+        let files = paths_of(alloc, folder, &cubes)?;
         Ok(Program {
             rt,
             alloc,
@@ -82,14 +100,14 @@ impl<'w, R: Files + Wait + Eprint> Program<'w, R> {
             wrong_event: None,
             cubes,
             folder,
+            files,
             reporter: Reporter::new(call.form),
         })
     }
 
     /// The bytes of the file of a log or of lemmas. None if it can't be read.
     fn bytes(&self, name: &str) -> Result<Option<Vec<u8>>, AllocError> {
-        let mut path = String::from_str(self.alloc, self.folder)?;
-        path.push_str(name)?;
+        let path = path_in(self.alloc, self.folder, name)?;
         match read_file(self.rt, self.alloc, path.as_str()) {
             Ok(bytes) => Ok(Some(bytes)),
             Err(error) if error.kind() == ErrorKind::OutOfMemory => Err(AllocError),

@@ -6,11 +6,11 @@ use crate::following::Heard;
 use crate::program::Program;
 use crate::record_file::RecordFile;
 use crate::reports::ReportForm;
-use command_line::report;
-use devices::{Ended, FileFault, FileNames, InputReader, Opener, OutputWriter};
+use command_line::{refuse_files, report};
+use devices::{CallFiles, Ended, FileNames, InputReader, Opener, OutputWriter};
 use either::Either;
 use psprove_run::SolveOptions;
-use std::alloc::{AllocError, Global};
+use std::alloc::Global;
 use std::process::ExitCode;
 use std::rt::Runtime;
 use std::sync::{Mutex, Wait};
@@ -39,53 +39,49 @@ pub(crate) struct SolveCall {
     pub(crate) project: Option<String>,
 }
 
-/// A copy of a name, if there is one.
-fn copy_of(alloc: Global, name: Option<&str>) -> Result<Option<String>, AllocError> {
-    match name {
-        Some(name) => Ok(Some(String::from_str(alloc, name)?)),
-        None => Ok(None),
+/// The names of the files of a call; those of the cubes that it joins are these.
+fn names_of<'a>(
+    call: &'a SolveCall,
+    record: Option<&'a RecordFile>,
+    cubes: &'a [String],
+) -> FileNames<'a> {
+    let names = FileNames {
+        second: call.start.as_deref(),
+        second_option: "--start",
+        project: call.project.as_deref(),
+        resume: call.resume.as_deref(),
+        tree: call.tree.as_deref(),
+        cubes,
+        until: call.until.as_deref(),
+        ..FileNames::none()
+    };
+    match record {
+        Some(record) => record.join(names),
+        None => names,
     }
 }
 
-/// The names of the files of a call whose record is in this file, under the name that it has first.
-fn names_of(
-    alloc: Global,
-    call: &SolveCall,
-    record: Option<&RecordFile<'_>>,
-) -> Result<FileNames, AllocError> {
-    Ok(FileNames {
-        second: copy_of(alloc, call.start.as_deref())?,
-        record_file: copy_of(alloc, record.map(|record| record.first_name()))?,
-    })
-}
-
-/// The failure of files that are not open; the record has the name that was given.
-fn failure_of<'w>(call: &'w SolveCall, names: FileNames, fault: FileFault) -> Failure<'w> {
-    match &call.record {
-        Some(name) if fault == FileFault::Record => Failure::File(name),
-        _ => Failure::Files(names, fault),
-    }
-}
-
-/// That the record is in no file that the call reads.
-fn check_losses<'w, R: Runtime>(
+/// Opens the files of a call, and that of its project if it has a name. Nothing is opened where one would be lost.
+fn open_files<'w, R: Runtime>(
     rt: &R,
     alloc: Global,
     call: &'w SolveCall,
-    record: &RecordFile<'_>,
-) -> Result<(), Failure<'w>> {
-    let names = names_of(alloc, call, Some(record))?;
-    if let Err(fault) = record.check(rt, &names) {
-        return Err(failure_of(call, names, fault));
+    names: &FileNames<'_>,
+) -> Result<(Option<R::File>, CallFiles<R::File>), Failure<'w>> {
+    let mut opener = Opener::new(alloc, rt);
+    if let Err(fault) = opener.check(names) {
+        return Err(Failure::Printed(refuse_files(rt, PROGRAM, names, fault)));
     }
-    for name in [&call.project, &call.tree].into_iter().flatten() {
-        if record.loses(rt, name.as_str()) {
-            return Err(Failure::Lost(name));
+    let project = match &call.project {
+        None => None,
+        Some(name) => {
+            let file = fs::open(rt, name.as_str());
+            Some(file.map_err(|error| Failure::of_file(&error, name))?)
         }
-    }
-    match &call.resume {
-        Some(name) if record.empties(rt, name.as_str()) => Err(Failure::LosesResumed),
-        _ => Ok(()),
+    };
+    match opener.open(names) {
+        Ok(files) => Ok((project, files)),
+        Err(fault) => Err(Failure::Printed(refuse_files(rt, PROGRAM, names, fault))),
     }
 }
 
@@ -102,20 +98,6 @@ fn status_of<R: Runtime>(
     }
 }
 
-/// The file of the record of a call, if it has one. It is none that the call reads.
-fn record_of<'w, R: Runtime>(
-    rt: &R,
-    alloc: Global,
-    call: &'w SolveCall,
-) -> Result<Option<RecordFile<'w>>, Failure<'w>> {
-    let Some(name) = &call.record else {
-        return Ok(None);
-    };
-    let record = RecordFile::of(rt, alloc, name)?;
-    check_losses(rt, alloc, call, &record)?;
-    Ok(Some(record))
-}
-
 /// Solves a project, or joins logs of cubes. The record has its name then, if it is whole.
 pub(crate) fn solve<'w, R: Runtime + Threads + Wait + Sync>(
     rt: &'w R,
@@ -123,23 +105,20 @@ pub(crate) fn solve<'w, R: Runtime + Threads + Wait + Sync>(
     call: &'w SolveCall,
     heard: &'w Mutex<Heard>,
 ) -> Result<ExitCode, Failure<'w>> {
-    let record = record_of(rt, alloc, call)?;
-    let mut program = Program::new(rt, alloc, call, heard)?;
-    let mut input = InputReader::new(match &call.project {
-        None => Either::Left(rt.reader()),
-        Some(name) => {
-            let file = fs::open(rt, name.as_str());
-            Either::Right(file.map_err(|error| Failure::of_file(&error, name))?)
-        }
-    });
-    let names = names_of(alloc, call, record.as_ref())?;
-    let files = match Opener::new(rt).open(&names) {
-        Ok(files) => files,
-        Err(fault) => return Err(failure_of(call, names, fault)),
+    let record = match &call.record {
+        Some(name) => Some(RecordFile::of(rt, alloc, name)?),
+        None => None,
     };
+    let mut program = Program::new(rt, alloc, call, heard)?;
+    let names = names_of(call, record.as_ref(), &program.files);
+    let (project, files) = open_files(rt, alloc, call, &names)?;
+    let mut input = InputReader::new(match project {
+        None => Either::Left(rt.reader()),
+        Some(file) => Either::Right(file),
+    });
     let (mut second, record_file) = (files.second, files.record_file);
     let mut out = OutputWriter::new(io::writer(rt));
-    let (ended, _record_file) = psprove_run::solve(
+    let (ended, record_file) = psprove_run::solve(
         rt,
         alloc,
         call.options,
@@ -151,7 +130,7 @@ pub(crate) fn solve<'w, R: Runtime + Threads + Wait + Sync>(
     );
     let status = status_of(rt, call, program.wrong_event, &ended);
     Ok(match record {
-        Some(record) => record.settle(rt, &ended),
+        Some(record) => record.settle(rt, record_file.map(|file| file.into_inner()), &ended),
         None => status,
     })
 }
