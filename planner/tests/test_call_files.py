@@ -23,10 +23,12 @@ CALLS: list[tuple[tuple[str, ...], list[str], list[str]]] = [
     (("solve", *COMMON, *START), [*READ, "s.st"], ["--out", "--svg", "--record"]),
     (("solve", "w.csv", *START), ["w.csv", "free.txt", "away.csv", "s.st"], ["--out", "--svg", "--record"]),
     (("write", *COMMON, "w.st"), [*READ, "w.st"], ["--out"]),
-    (("gantt", *COMMON, "w.st"), [*READ, "w.st"], ["--svg"]),
+    (("gantt", *COMMON, "w.st", "--baseline", "s.st"), [*READ, "w.st", "s.st"], ["--svg"]),
     (("float", *COMMON, "w.st"), [*READ, "w.st"], ["--out", "--svg"]),
     (("float", *COMMON, "w.st", "--total", *START), [*READ, "w.st", "s.st"], ["--svg"]),
-    (("report", *COMMON, "w.st", "--record", "w.rec", *START), [*READ, "w.st", "w.rec", "s.st"], ["--out"]),
+    (("report", *COMMON, "w.st", "--record", "w.rec", "--baseline", "s.st"), [*READ, "w.st", "w.rec", "s.st"],
+     ["--out"]),
+    (("report", "w.json", "w.st", *START), ["w.json", "w.st", "s.st"], ["--out"]),
     (("whatif", *COMMON), READ, ["--out"]),
     (("watch", "w.csv", *START), ["w.csv", "s.st"], ["--record"]),
     (("watch", "w.csv", "--holidays", "free.txt", "--absences", "away.csv"), ["w.csv", "free.txt", "away.csv"], ["--record"]),
@@ -88,7 +90,7 @@ class Names(InFolder):
         tried = {(words[0], option) for words, _, options in CALLS for option in options} | OTHERS
         named_by = {(name, option) for name, *_ in COMMANDS for action in parser_of(name)._actions if named(action)
                     for option in action.option_strings[-1:]}
-        read = {"--names", "--holidays", "--absences", "--start", "--known", "--join"}
+        read = {"--names", "--holidays", "--absences", "--start", "--baseline", "--known", "--join"}
         self.assertEqual({one for one in named_by if one[1] not in read} - {("report", "--record")}, tried)
 
     def test_two_outputs(self) -> None:

@@ -3,8 +3,13 @@ import math
 import re
 import unittest
 from itertools import combinations
+from typing import Any
 
-from psmax.planner.chart import STYLE
+from psmax.calendars import minutes_of
+from psmax.planner.chart import STYLE, Chart
+from psmax.planner.drawing import Drawing
+from psmax.planner.time_axis import Dates
+from psmax.work_time import WorkTime
 
 from .helpers import PROJECTS, InFolder, plan
 
@@ -60,6 +65,103 @@ class Colours(unittest.TestCase):
             for lack, matrix in LACKS.items():
                 left = [solved(CONES, times(matrix, times(CONES, rgb))) for rgb in seen]
                 self.assertGreater(distance(*left), TOLD_APART, (one, other, lack))
+
+
+WEEK: dict[str, Any] = {"workdays": "mon-fri"}
+SHIFT: dict[str, Any] = {"period": "hours", "shift": "07:00-12:00,13:00-16:00", "workdays": "mon-sat"}
+
+# When a project starts, how long it is and what its days are; how many pixels it has; the bands of its ruler, and its
+# shades, from a calendar on the wall. 2026-03-30 is a Monday, of week 14.
+RULERS: list[tuple[str, int, dict[str, Any], int, list[str], list[str]]] = [
+    ("2026-03-30", 6, WEEK, 800,
+     ["March 2026|April 2026", "CW 14|CW 15", "Mon 30|Tue 31|Wed 1|Thu 2|Fri 3|Sat 4|Sun 5|Mon 6"],
+     ["Sat 00:00 Mon 00:00"]),
+    ("2026-03-30", 6, {**WEEK, "holidays": ["2026-04-03"]}, 800,
+     ["March 2026|April 2026", "CW 14|CW 15", "Mon 30|Tue 31|Wed 1|Thu 2|Fri 3|Sat 4|Sun 5|Mon 6|Tue 7"],
+     ["Fri 00:00 Mon 00:00"]),
+    ("2026-03-30", 6, {}, 800, ["March 2026|April 2026", "CW 14", "Mon 30|Tue 31|Wed 1|Thu 2|Fri 3|Sat 4"],
+     ["Sat 00:00 Sun 00:00"]),
+    ("2026-04-03 07:00", 16, SHIFT, 200, ["April 2026", "Fri 3|Sat 4", "00|06|12|18|00|06|12|18"],
+     ["Fri 00:00 Fri 07:00", "Fri 12:00 Fri 13:00", "Fri 16:00 Sat 07:00", "Sat 12:00 Sat 13:00",
+      "Sat 16:00 Sun 00:00"]),
+    ("2026-04-03 07:00", 40, SHIFT, 160, ["April 2026", "CW 14|CW 15", "Fri 3|Sat 4|Sun 5|Mon 6|Tue 7|Wed 8"],
+     ["Fri 00:00 Fri 07:00", "Fri 16:00 Sat 07:00", "Sat 16:00 Mon 07:00", "Mon 16:00 Tue 07:00", "Tue 16:00 Wed 07:00",
+      "Wed 16:00 Thu 00:00"]),
+    ("2026-04-03 20:00", 12, {"period": "hours"}, 800,
+     ["April 2026", "Fri 3|Sat 4", "20|21|22|23|00|01|02|03|04|05|06|07"], ["Fri 20:00 Sat 08:00"]),
+    ("2026-12-28", 100, WEEK, 400, ["December 2026|January 2027|February 2027|March 2027|April 2027|May 2027",
+     "CW 53|CW 1|CW 2|CW 3|CW 4|CW 5|CW 6|CW 7|CW 8|CW 9|CW 10|CW 11|CW 12|CW 13|CW 14|CW 15|CW 16|CW 17|CW 18|CW 19"],
+     ["Sat 00:00 Mon 00:00"] * 19),
+    ("2026-12-28", 1000, WEEK, 120, ["2026|2027|2028|2029|2030"], []),
+]
+
+
+class Rulers(unittest.TestCase):
+    def test_bands_and_shades(self) -> None:
+        for first, length, days, width, bands, shades in RULERS:
+            with self.subTest(first=first, days=days):
+                calendar = WorkTime(first, **days).calendar()
+                axis = Dates(Drawing("", (), 0, length, (), (), calendar=calendar), calendar, width)
+                self.assertEqual(["|".join(band.names[0] for band in row) for row in axis.bands()], bands)
+                told = [" ".join(f"{axis.origin + minutes_of(int(place)):%a %H:%M}" for place in (one.begins, one.ends))
+                        for one in axis.shades()]
+                self.assertEqual(told, shades)
+                self.assertTrue(all(one.is_free == ("workdays" in days) for one in axis.shades()))
+
+    def test_names_have_room(self) -> None:
+        """Whatever width there is, no name is longer than its band, and the coarsest band has one."""
+        calendar = WorkTime("2026-03-30", workdays="mon-fri").calendar()
+        for length in (1, 5, 30, 200, 3000):
+            chart = Chart(Drawing("", (), 0, length, (), (), calendar=calendar), 760, has_shares=False)
+            names = [(one, float(one.get("x", ""))) for one in chart.ruler() if one.tag == "text"]
+            self.assertTrue(names)
+            for (one, x), (after, limit) in zip(names, names[1:]):
+                is_same_row = one.get("y") == after.get("y")
+                self.assertTrue(not is_same_row or x + 6 * len(one.text or "") <= limit, (length, one.text))
+
+
+class Pictures(InFolder):
+    """By hand, of a picture 900 pixels wide, with 8 free at either edge."""
+
+    def boxes(self, table: str, starts: str, *words: object) -> tuple[dict[str, list[tuple[float, float]]], list[str]]:
+        """From when until when each box is, in days, by its class; and the dates."""
+        answer, out = self.file("a.csv", f"name,start\n{starts}"), self.folder / "p.svg"
+        ran = plan("gantt", self.file("p.csv", table), answer, "--svg", out, *words)
+        self.assertEqual(ran.returncode, 0, ran.stderr)
+        text, found = out.read_text(), dict[str, list[tuple[float, float]]]()
+        day = 884 / len(re.findall('<text class="time"[^>]* y="47"', text))
+        for kind, x, width in re.findall('<rect class="([a-z]+)" x="([^"]*)"[^>]* width="([^"]*)"', text):
+            begins = (float(x) - 8) / day
+            found.setdefault(kind, []).append((round(begins, 1), round(begins + float(width) / day, 1)))
+        return found, re.findall('<text class="dates[^>]*>([^<]*)<', text)
+
+    def test_over_a_weekend(self) -> None:
+        """From Thursday: a ends that evening, b goes on after the weekend."""
+        table = "from,2026-04-02\nworkdays,mon-fri\nactivity,days,crew (2),after\na,1,1,\nb,2,2,a\nc,2,,b\n"
+        found, dates = self.boxes(table, "a,0\nb,1\nc,3\n")
+        self.assertEqual(found["bar"], [(0, 1), (1, 5), (5, 7)])
+        self.assertEqual(found["free"], [(2, 4)] * 2)  # behind all rows, and before the use of the crew
+        self.assertEqual(found["use"], [(0, 1), (1, 5)])
+        self.assertEqual(dates, ["04-02", "04-03 \u2013 04-06", "04-07 \u2013 04-08"])
+
+    def test_done_and_remains(self) -> None:
+        """On Wednesday: a ended on Monday, b has two days of four behind it, and c waits."""
+        found, _ = self.boxes("from,2026-03-30\nstatus,2026-04-01\nactivity,days,after,started,finished,done\n"
+                              "a,1,,2026-03-30,2026-03-30,\nb,4,,2026-03-30,,50 %\nc,2,b,,,\n", "a,0\nb,0\nc,4\n")
+        self.assertEqual((found["past"], found["left"], found["bar"]), ([(0, 1), (0, 2)], [(0, 4)], [(4, 6)]))
+
+    def test_baseline(self) -> None:
+        """Where each was, after as long as it took then; d is new."""
+        before = self.file("old.csv", "name,start,takes\na,0,3\nb,3,1\nc,4,0\n")
+        table = "from,2026-03-30\nactivity,days,after\na,2,\nb,1,a\nc,0,b\nd,1,c\n"
+        found, _ = self.boxes(table, "a,0\nb,2\nc,3\nd,3\n", "--baseline", before)
+        self.assertEqual(found["before"], [(0, 3), (3, 4)])
+        words, page = (self.folder / "p.csv", self.folder / "a.csv", "--baseline", before), self.folder / "p.html"
+        self.refused(plan("gantt", *words), 2, "--baseline is for a picture")
+        ran = plan("report", *words, "--out", page)
+        self.assertEqual(ran.returncode, 0, ran.stderr)
+        self.assertEqual(page.read_text().count(' class="before"'), 3 + 1)  # and in the key
+        self.assertIn("before: 2026-03-30 to 2026-04-01", page.read_text())
 
 
 class Tables(InFolder):

@@ -94,7 +94,8 @@ class Dates(InFolder):
         self.assertIn("build: 2026-04-02 to 2026-04-08", (self.folder / "s.svg").read_text())
 
     def test_charts(self) -> None:
-        """By hand: a bar for each working day, the dates of the starts beside them, and on the ruler."""
+        """By hand: a bar for each working day, the dates of the starts beside them; on the ruler of a picture the
+        month, the weeks and the days."""
         self.read("days", "--from", "2026-04-02", "--workdays", "mon-fri")
         lines = self.ran("gantt").stdout.splitlines()
         self.assertEqual(lines[1].split(), ["2026-04-02"])
@@ -102,8 +103,8 @@ class Dates(InFolder):
                          [["2026-04-02", "###.."], ["2026-04-06", "...|."], ["2026-04-07", "...##"]])
         self.assertEqual(self.ran("gantt", "--svg", self.folder / "p.svg").returncode, 0)
         texts = [node.text for node in ElementTree.parse(self.folder / "p.svg").iter("{http://www.w3.org/2000/svg}text")]
-        self.assertIn("2026-04-02", texts)
-        self.assertIn("04-07", texts)
+        self.assertEqual(texts[1:5], ["April 2026", "CW 14", "CW 15", "Thu 2"])
+        self.assertIn("04-07 \u2013 04-08", texts)
         self.assertIn("build: 2026-04-02 to 2026-04-06", (self.folder / "p.svg").read_text())
 
     def test_charts_of_moments_and_of_starts_before_the_first(self) -> None:

@@ -16,13 +16,16 @@ pour {{title}},1,1,dig <b>,,
 "cure & ""wait""",4,,pour {{title}},,2
 '''
 ASK = """const all = (selector) => [...document.querySelectorAll(selector)];
+const box = (selector) => all(selector)[0].getBoundingClientRect();
+all("#chart")[0].scrollTop = 10;
 all("#rows tr")[2].click();
 all("th [role=button]")[2].click();
 return {
   sideways: document.documentElement.scrollWidth > window.innerWidth,
   rows: all("#rows tr").map((row) => row.cells[0].textContent),
   shown: all(".lag.shown").length, chosen: all(".line.chosen th").map((one) => one.textContent),
-  lags: all("#lags li").map((one) => one.textContent),
+  lags: all("#lags li").map((one) => one.textContent), time: box("#ruler svg").width, chart: box("#chart").width,
+  head: box("#ruler").top - box("#chart").top, names: all(".line th").map((one) => one.scrollWidth > one.clientWidth),
 };"""
 
 
@@ -108,7 +111,7 @@ class Report(InFolder):
 
     def test_on_paper(self) -> None:
         """A4 or A3 on its side, with the title and the number of the page on each; a row of a table for each activity, below
-        times that each page has; the last time ends before the edge; one of something is no plural."""
+        times that each page has; one of something is no plural."""
         page = self.hostile()
         self.assertIn("@page { size: A4 landscape;", page)
         self.assertIn('@top-left { content: "p";', page)
@@ -118,11 +121,6 @@ class Report(InFolder):
         self.assertEqual(page.count('<tr class="line"'), 3)
         starts = self.file("starts", plan("solve", self.folder / "p.sch").stdout)
         self.assertIn("@page { size: A3 landscape;", self.page(self.folder / "p.sch", starts, "--paper", "A3"))
-        answer = self.file("best", psmax("solve", given=(EXAMPLES / "building-site.sch").read_bytes()))
-        page = self.page(EXAMPLES / "building-site.sch", answer)
-        width = int(re.findall(r'<svg width="([1-9][0-9]+)"', page)[0])
-        times = re.findall(r'<text class="time" x="([0-9.]+)" y="16"( text-anchor="end")?>', page)
-        self.assertTrue(times and all(is_left or float(place) + 120 <= width for place, is_left in times), times)
 
     @unittest.skipUnless(browser.is_here() and PDFTOTEXT, f"{browser.MISSING}, or pdftotext")
     def test_pages(self) -> None:
@@ -155,12 +153,15 @@ class Report(InFolder):
 
     @unittest.skipUnless(browser.is_here(), browser.MISSING)
     def test_in_a_browser(self) -> None:
-        """By hand: curing is tied to pouring by two lags; it and what it waits for are critical, and so in their order."""
+        """By hand: curing is tied to pouring by two lags; it and what it waits for are critical, and so in their order. The
+        time takes what the names leave, but no less than the paper gives it; the head stays; names are whole."""
         page = self.hostile()
         for width in (1280, 390):
             told = self.asked(page, width)
             self.assertEqual([told[key] for key in ("sideways", "rows", "shown", "chosen")],
                              [False, ["1", "2", "3"], 2, ['3 cure & "wait"']])
+            self.assertEqual((told["time"] < told["chart"], told["time"] > 760 + 1), (width > 390,) * 2)
+            self.assertEqual((round(told["head"]), any(told["names"])), (1, False))
             self.assertIn('3 (cure & "wait") starts no sooner than 2 (pour {{title}}) ends: tight', told["lags"][0])
 
     @unittest.skipUnless(browser.is_here(), browser.MISSING)

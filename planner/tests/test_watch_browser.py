@@ -61,7 +61,7 @@ class InBrowser(Watches):
         self.done("(27 days)")
         self.click("in")
         wide = "return document.querySelector('#ruler svg').width.baseVal.value"
-        self.until(lambda: self.run_script(wide) > 1000)
+        self.until(lambda: self.run_script(wide) > 1500)
         self.run_script("document.querySelectorAll('#lines .line')[8].click()")
         self.run_script("scrollTo(0, 200); document.getElementById('chart').scrollLeft = 100")
         where = """const chart = document.getElementById("chart"), top = chart.getBoundingClientRect().top;
@@ -71,9 +71,9 @@ class InBrowser(Watches):
         watch.table.write_text(CHANGED)
         self.done("(30 days)")
         self.assertEqual(self.run_script(where), ["10 sheet the roof", 100, top])
-        self.assertGreater(self.run_script(wide), 1000)
+        self.assertGreater(self.run_script(wide), 1500)
         self.assertIn("9 test the bolts", self.run_script(ROWS))
-        self.assertGreater(self.run_script("return document.querySelectorAll('#lines .was').length"), 3)
+        self.assertGreater(self.run_script("return document.querySelectorAll('#lines .before').length"), 3)
         self.assertIn("makespan 27 -> 30, 3 later (2026-04-09 -> 2026-04-14)", self.text("moved"))
         self.assertIn("test the bolts: new, at ", self.text("moved"))
         self.assertIn("get trusses: 2026-03-", self.text("moved"))

@@ -11,6 +11,7 @@ MINUTES = {"minutes": 1, "hours": 60, "days": 24 * 60, "weeks": 7 * 24 * 60}  # 
 DAY = datetime.timedelta(days=1)
 MINUTE, ZERO = datetime.timedelta(minutes=1), datetime.timedelta(0)
 YEARS = 10  # that are looked at for changes of clocks
+WHOLE_DAY = ((0, 24 * 60),)
 MOST_DAYS = 4_000_000  # more than there are until the year 9999
 BEYOND = "the schedule goes beyond the years 1 to 9999"  # told where a date overflows
 
@@ -61,6 +62,10 @@ class Calendar:
     def mark(self, time: int) -> str:
         """A period in few letters."""
         raise NotImplementedError
+
+    def hours_of(self, day: datetime.date) -> Sequence[tuple[int, int]]:
+        """The hours of work of a day, in its minutes."""
+        return WHOLE_DAY
 
     def without_holidays(self) -> "Calendar":
         return self
@@ -157,6 +162,9 @@ class Days(Calendar):
 
     def mark(self, time: int) -> str:
         return self.style.mark(self.day(self.step * time))
+
+    def hours_of(self, day: datetime.date) -> Sequence[tuple[int, int]]:
+        return WHOLE_DAY if day.weekday() in self.workdays and day not in self.holidays else ()
 
     def without_holidays(self) -> Calendar:
         return Days(self.first, self.step, self.workdays, frozenset())
@@ -261,6 +269,9 @@ class Shifts(Calendar):
 
     def mark(self, time: int) -> str:
         return self.begins(time).strftime("%d %H:%M")
+
+    def hours_of(self, day: datetime.date) -> Sequence[tuple[int, int]]:
+        return self.shift if self.days.hours_of(day) else ()
 
     def without_holidays(self) -> Calendar:
         days = Days(self.days.first, 1, self.days.workdays, frozenset())

@@ -26,6 +26,8 @@ class Bar:
     was: tuple[int, int] | None = None  # when it began and ended in the plan before
     id: str = ""  # its ID in the table, or its number
     is_open: bool = False  # whether its total float is not known yet
+    is_morning: bool = False  # of what takes no time: whether it stands where a day begins
+    dates: str = ""  # when it begins and ends, in few letters
 
     @property
     def label(self) -> str:
@@ -53,6 +55,7 @@ class Drawing:
     calendar: Calendar | None = None
     length: Callable[[int], str] = str  # of so many periods, as the table writes lengths
     after: Callable[[int], str] = str  # a time, where there is no calendar
+    now: int | None = None  # the status date
 
     def span(self, begins: int, ends: int) -> str:
         """From when to when something is, in dates where there is a calendar."""
@@ -87,21 +90,38 @@ def make(opened: ProjectFile, starts: tuple[int, ...], title: str, notes: tuple[
     for i in range(1, project.end):
         bars += [bracket(opened, starts, group.name, group.activities) for group in opened.groups
                  if group.activities.start == i and len(group.activities)]
+        has_started = i in known.started or i in opened.progress.started
         bars.append(Bar(i, opened.names.activities.get(i, ""), starts[i], starts[i] + project.durations[i],
                         *opened.times(i, starts[i]), known.windows.get(i), i in known.critical, project.due.get(i),
-                        i in known.started, known.was.get(i), opened.names.label(i), i in known.open))
+                        has_started, known.was.get(i), opened.names.label(i), i in known.open,
+                        starts[i] in opened.mornings.get(i, ()), beside(opened, (i, starts[i]), (i, starts[i]))))
     loads = tuple(Load(opened.names.resource(k), units, joined(stretches(project, starts, k)),
                        cut(away(project, k, ends), ends), cut(off(project, k), ends))
                   for k, units in enumerate(project.capacities))
-    return Drawing(title, notes, begins, ends, tuple(bars), loads, is_plan, opened.calendar, opened.length, opened.after)
+    return Drawing(title, notes, begins, ends, tuple(bars), loads, is_plan, opened.calendar, opened.length,
+                   opened.after, opened.progress.now)
 
 
 def bracket(opened: ProjectFile, starts: tuple[int, ...], name: str, activities: range) -> Bar:
     """A group, from the first start to the last end of its activities."""
     first = min(activities, key=lambda i: starts[i])
     last = max(activities, key=lambda i: starts[i] + opened.project.durations[i])
-    ends = starts[last] + opened.project.durations[last]
-    return Bar(None, name, starts[first], ends, opened.times(first, starts[first])[0], opened.times(last, starts[last])[1])
+    begins, ends = starts[first], starts[last] + opened.project.durations[last]
+    return Bar(None, name, begins, ends, opened.times(first, begins)[0], opened.times(last, starts[last])[1],
+               dates=beside(opened, (first, begins), (last, starts[last])))
+
+
+def beside(opened: ProjectFile, first: tuple[int, int], last: tuple[int, int]) -> str:
+    """From the begin of one activity with its start to the end of another, in few letters."""
+    if opened.calendar is None:
+        ends_at = last[1] + opened.project.durations[last[0]]
+        return " \u2013 ".join(dict.fromkeys(map(opened.after, (first[1], ends_at))))
+    calendar, begins, ends = opened.calendar, opened.span(*first)[0], opened.span(*last)[1]
+    told = [calendar.style.mark(begins) + ("" if calendar.is_by_day else f" {begins:%H:%M}")]
+    if ends != begins:
+        told.append(" ".join([calendar.style.mark(ends)] * (ends.date() != begins.date())
+                             + [f"{ends:%H:%M}"] * (not calendar.is_by_day)))
+    return " \u2013 ".join(told)
 
 
 def joined(found: tuple[Stretch, ...]) -> tuple[Stretch, ...]:

@@ -3,9 +3,10 @@ from dataclasses import dataclass
 
 from ..call_files import lose_none, must_be_like
 from ..clock import Clock
+from ..errors import BadInput
 from ..files import STANDARD_INPUT, write_whole
 from ..psmax import Psmax
-from . import drawing
+from . import baseline, drawing
 from .answer import judged
 from .answer_text import read_answer
 from .drawing import Bar, Drawing, Load
@@ -155,9 +156,11 @@ class Chart:
             print(text(shown, self.width), end="")
 
 
-def gantt(opened: ProjectFile, given: str | None, chart: Chart) -> int:
+def gantt(opened: ProjectFile, given: str | None, chart: Chart, before: str | None = None) -> int:
     """Draws starts that are no feasible schedule too, with their violations."""
-    lose_none(opened.inputs() | {"the answer": given or STANDARD_INPUT}, [chart.svg])
+    if before is not None and chart.svg is None:
+        raise BadInput("--baseline is for a picture, which --svg names")
+    lose_none(opened.inputs() | {"the answer": given or STANDARD_INPUT} | baseline.inputs(before), [chart.svg])
     chart.must_fit()
     answer = read_answer(given)
     if answer.instead:
@@ -165,5 +168,6 @@ def gantt(opened: ProjectFile, given: str | None, chart: Chart) -> int:
         return 0
     known = judged(opened, answer, Psmax(Clock(), opened.path))
     lines = [] if known.value is None else verdict(opened, known.starts, known.value)
-    chart.show(drawing.make(opened, known.starts, known.title(*lines[:1]), (*lines[1:], *known.violations)))
+    was = drawing.Known(was=baseline.read_baseline(opened, before))
+    chart.show(drawing.make(opened, known.starts, known.title(*lines[:1]), (*lines[1:], *known.violations), was))
     return 0

@@ -227,18 +227,24 @@ def add_chart(one: argparse.ArgumentParser) -> None:
 def add_gantt(one: argparse.ArgumentParser) -> None:
     add_schedule(one)
     add_chart(one)
+    add_baseline(one)
     one.set_defaults(run=run_gantt)
 
 
 def run_gantt(options: argparse.Namespace) -> int:
     from . import gantt
-    return gantt.gantt(opened(options), options.answer, gantt.Chart(options.svg, options.width))
+    return gantt.gantt(opened(options), options.answer, gantt.Chart(options.svg, options.width), options.baseline)
+
+
+def add_baseline(one: argparse.ArgumentParser) -> None:
+    one.add_argument("--baseline", metavar="ANSWER", help="draw the bars of this earlier plan below those of the plan")
 
 
 def add_report(one: argparse.ArgumentParser) -> None:
     add_schedule(one)
     one.add_argument("--out", metavar="FILE", required=True, help="write the page into FILE")
     one.add_argument("--record", metavar="RECORD", help="the record that proves the bound")
+    add_baseline(one)
     one.add_argument("--paper", choices=["A4", "A3"], default="A4", help="what it is printed on (default A4)")
     add_start(one)
     add_limits(one)
@@ -248,7 +254,7 @@ def add_report(one: argparse.ArgumentParser) -> None:
 def run_report(options: argparse.Namespace) -> int:
     from . import report
     return report.report(opened(options), options.answer, start(options), report.Options(
-        options.record, options.out, options.paper, options.seconds, options.jobs))
+        options.record, options.out, options.paper, options.seconds, options.jobs, options.baseline))
 
 
 def add_watch(one: argparse.ArgumentParser) -> None:

@@ -52,19 +52,26 @@ function card(row, x, y) {
   place.style.top = `${y + 18 + place.offsetHeight < innerHeight ? y + 18 : Math.max(0, y - place.offsetHeight - 12)}px`;
 }
 
+function seen(line, bar) {
+  const chart = byId("chart"), place = chart.getBoundingClientRect();
+  chart.scrollLeft += bar.getBoundingClientRect().left - place.left - line.cells[0].offsetWidth - 60;
+  chart.scrollTop += line.getBoundingClientRect().top - place.top - place.height / 2;
+}
+
 document.addEventListener("click", (event) => {
   const row = event.target.closest("[data-a]");
   if (!row) return;
   pick(row);
-  const bar = document.querySelector(`.line[data-a="${row.dataset.a}"] svg > :is(rect, path):last-of-type`);
-  if (bar && row.classList.contains("activity")) byId("chart").scrollLeft = bar.getBBox().x - 60;
+  const line = document.querySelector(`.line[data-a="${row.dataset.a}"]`);
+  const bar = line && line.querySelector(".bar, .critical, .unknown, .past, .left, .was");
+  if (bar && row.classList.contains("activity")) seen(line, bar);
 });
 document.addEventListener("pointermove", (event) => {
   card(event.target.closest && event.target.closest(".line[data-a]"), event.clientX, event.clientY);
 });
 document.addEventListener("focusin", (event) => {
   const row = event.target.closest("[data-a]"), place = row && row.getBoundingClientRect();
-  if (row) card(row, place.left + 260, place.top); else card(null);
+  if (row) card(row, place.left + row.cells[0].offsetWidth + 10, place.top); else card(null);
 });
 document.addEventListener("keydown", (event) => {
   const row = event.target.closest("[data-a]"), step = { ArrowDown: 1, ArrowUp: -1 }[event.key];
@@ -78,8 +85,6 @@ document.addEventListener("keydown", (event) => {
   pick(next);
   next.focus();
 });
-byId("all").addEventListener("change", (event) => byId("chart").classList.toggle("all", event.target.checked));
-
 function sortBy(head, way) {
   const body = byId("rows"), key = (row) => row.cells[head.cellIndex].dataset.key;
   each("#heads th", (other) => other.removeAttribute("aria-sort"));

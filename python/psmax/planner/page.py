@@ -14,7 +14,7 @@ from .. import __version__
 from ..project import Arc, Goal
 from ..total import TotalFloat
 from . import drawing
-from .chart import LOAD, NOT_KNOWN, ROW, RULER, STYLE, Chart, definitions, mark, markup
+from .chart import LOAD, NOT_KNOWN, ROW, STYLE, Chart, definitions, group, mark, markup
 from .drawing import Bar, Drawing
 from .headline import MISSED
 from .project_file import ProjectFile
@@ -25,8 +25,7 @@ from .wording import Words
 FOLDER = pathlib.Path(__file__).parent
 PLACES = ("headline", "made", "read", "facts", "proof", "definitions", "ruler", "arrows", "heads", "total", "lines", "rows",
           "uses", "digest")
-WIDTH = {"A4": 760, "A3": 1230}  # pixels of the time, so that it fits the paper on its side beside the names
-WIDEST = 36  # pixels of a period at most
+WIDTH = {"A4": 760, "A3": 1230}  # pixels of the time at least, so that it fits the paper on its side beside the names
 Rows = list[tuple[str, str]]  # rows of a table, each with what it is known by
 
 
@@ -62,15 +61,13 @@ class Page:
         self.open = view.open() if view.is_plan else set()
         self.shown: Drawing = drawing.make(view.opened, view.starts, "", (), drawing.Known(
             view.windows, critical, started, view.was, self.open), view.is_plan)
-        self.chart = Chart(self.shown, zoom * min(WIDEST, WIDTH[paper] / (self.shown.ends - self.shown.begins)))
+        self.chart = Chart(self.shown, round(zoom * WIDTH[paper]), has_shares=True)
         self.activities = sorted((bar for bar in self.shown.bars if bar.activity is not None),
                                  key=lambda bar: (bar.begins, bar.activity))
         self.lags = self.said_of_lags()
 
     def parts(self) -> dict[str, str]:
         """Markup by the place where it stands."""
-        grid = mark("g", id="grid")
-        grid.extend(self.chart.grid(LOAD))
         chart, starts = self.chart, self.view.starts
         arrows = chart.circle(self.view.circle, self.words) if not self.view.is_plan else chart.arrows(
             self.project.arcs, starts, self.words)
@@ -78,8 +75,10 @@ class Page:
             "headline": markup(*self.headline()), "made": escape(self.made()),
             "read": escape(" ".join(first_line(self.opened))), "facts": markup(*self.facts()),
             "proof": markup(*in_code(self.view.proof)),
-            "definitions": markup(definitions(), grid), "ruler": markup(picture(chart.width, RULER, chart.ruler())),
-            "arrows": markup(picture(chart.width, chart.height, arrows)), "heads": markup(*self.heads()),
+            "definitions": markup(definitions(), group(chart.grid(LOAD), id="grid")),
+            "ruler": markup(picture(chart.ruler_height, chart.ruler())),
+            "arrows": markup(mark("svg", width=chart.width, height=0), picture(chart.height, arrows)),
+            "heads": markup(*self.heads()),
             "total": escape(self.said_of_total()), "digest": escape(self.view.digest),
         }
 
@@ -100,7 +99,7 @@ class Page:
         kind = "load" if height == LOAD else "line" if activity is not None else "line group"
         line = mark("tr", kind) if activity is None else mark("tr", kind, data_a=activity)
         cell = mark("td")
-        cell.append(picture(self.chart.width, height, [mark("use", href="#grid"), *parts], said))
+        cell.append(picture(height, [mark("use", href="#grid"), *parts], said))
         line.extend([mark("th", "", label, scope="row", title=label), cell])
         return line
 
@@ -213,8 +212,8 @@ def key_of(bar: Bar) -> str:
     return f"activity {bar.name or bar.activity}"
 
 
-def picture(width: int, height: int, parts: Iterable[Element], said: str = "") -> Element:
-    made = mark("svg", width=width, height=height, **(dict(role="img", aria_label=said) if said else {}))
+def picture(height: int, parts: Iterable[Element], said: str = "") -> Element:
+    made = mark("svg", width="100%", height=height, **(dict(role="img", aria_label=said) if said else {}))
     made.extend([*parts])
     return made
 

@@ -10,6 +10,7 @@ from ..errors import BadInput
 from ..files import STANDARD_INPUT, write_whole
 from ..psmax import Psmax
 from ..psprove import Psprove
+from . import baseline
 from .answer import Answer, feasible
 from .answer_text import read_answer
 from .beginning import Start, begin_with
@@ -31,6 +32,7 @@ class Options:
     paper: str
     seconds: float
     jobs: int
+    baseline: str | None = None
 
 
 def proof(answer: Answer, found: Verdict | None) -> str:
@@ -59,19 +61,20 @@ def headline_of(answer: Answer, found: Verdict | None, opened: ProjectFile) -> t
 
 def report(opened: ProjectFile, given: str | None, start: Start, options: Options) -> int:
     inputs = {"the answer": given or STANDARD_INPUT} | ({} if options.record is None else {"the record": options.record})
-    lose_none(opened.inputs() | start.inputs() | inputs, [options.out])
+    lose_none(opened.inputs() | start.inputs() | baseline.inputs(options.baseline) | inputs, [options.out])
     must_be_like(options.out, BEGIN, "page of HTML")
     psmax = Psmax(Clock(), opened.path)
     answer = feasible(opened, read_answer(given), psmax)
     found = verdict(opened, options.record, start) if options.record is not None else None
     if found is not None and found.wrong:
         raise BadInput(found.sentence())
+    was = baseline.read_baseline(opened, options.baseline)
     clock = Clock(options.seconds)
     clock.listen()
     total = total_float(begin_with(opened, start), answer.starts, Psprove(clock, opened.path), options.jobs)
     is_shortest = found is not None and found.bound == answer.value
     view = View(opened, answer.starts, proof(answer, found), is_shortest, windows(opened.project, answer.starts, psmax), total,
-                headline=headline_of(answer, found, opened), digest=digest(found))
+                was, headline=headline_of(answer, found, opened), digest=digest(found))
     write_whole(options.out, page_of(view, options.paper))
     return 3 if total.open() else 0
 

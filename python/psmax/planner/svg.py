@@ -2,7 +2,7 @@
 from collections.abc import Sequence
 from xml.etree.ElementTree import Element
 
-from .chart import LOAD, ROW, RULER, STYLE, Chart, definitions, mark, markup, tip
+from .chart import LOAD, ROW, STYLE, Chart, definitions, group, mark, markup, tip
 from .drawing import Drawing
 
 TOP = 32  # pixels of the title
@@ -12,25 +12,26 @@ LETTER = 7  # pixels of a letter, about
 
 def draw(shown: Drawing) -> str:
     """The title, the times, a row for each activity and each resource, and notes."""
-    chart = Chart(shown, TIME / (shown.ends - shown.begins))
+    chart = Chart(shown, TIME, has_shares=False)
     labels = [bar.label for bar in shown.bars] + [f"{load.name}, of {load.capacity}" for load in shown.loads]
     left = 16 + LETTER * max([10, *map(len, labels)])
-    bottom = TOP + RULER + chart.height + LOAD * len(shown.loads)
+    top = TOP + chart.ruler_height
+    bottom = top + chart.height + LOAD * len(shown.loads)
     width, height = left + chart.width, bottom + 8 + ROW * len(shown.notes)
     picture = mark("svg", xmlns="http://www.w3.org/2000/svg", width=width, height=height, viewBox=f"0 0 {width} {height}")
-    time = moved(left, TOP, chart.ruler())
-    picture.extend([mark("style", "", STYLE), definitions(), words(16, 20, shown.title, "title"), time,
-                    moved(left, TOP + RULER, chart.grid(bottom - TOP - RULER)), *rows(chart, left)])
+    picture.extend([mark("style", "", STYLE), definitions(), words(16, 20, shown.title, "title"),
+                    moved(left, TOP, chart.ruler()), moved(left, top, chart.grid(bottom - top))])
+    picture.extend(rows(chart, left, top))
     picture.extend([words(16, bottom + 16 + ROW * row, note) for row, note in enumerate(shown.notes)])
     return markup(picture) + "\n"
 
 
-def rows(chart: Chart, left: int) -> list[Element]:
+def rows(chart: Chart, left: int, y: int) -> list[Element]:
     """The activities and the resources, each with its name before it."""
-    found, y = [], TOP + RULER
+    found = []
     for bar in chart.shown.bars:
         kind = "title" if bar.activity is None else ""
-        found += [words(16, y + 15, bar.label, kind), moved(left, y, [tip(chart.said(bar), *chart.bar(bar))])]
+        found += [words(16, y + 13, bar.label, kind), moved(left, y, [tip(chart.said(bar), *chart.bar(bar))])]
         y += ROW
     for load in chart.shown.loads:
         found += [words(16, y + LOAD / 2 + 4, f"{load.name}, of {load.capacity}"), moved(left, y, chart.load(load))]
@@ -39,9 +40,7 @@ def rows(chart: Chart, left: int) -> list[Element]:
 
 
 def moved(x: float, y: float, parts: Sequence[Element]) -> Element:
-    group = mark("g", transform=f"translate({x},{y})")
-    group.extend(parts)
-    return group
+    return group(parts, transform=f"translate({x},{y})")
 
 
 def words(x: float, y: float, text: str, kind: str = "") -> Element:
