@@ -186,6 +186,28 @@ class Tables(InFolder):
         self.assertEqual(held, ["held: the project starts then", "held: 1 of crane, until then in use: 1 (a)",
                                 "held: 3 (c) starts no sooner than 2 (b) ends"])
 
+    def test_columns(self) -> None:
+        """None is empty: what nobody needs, and what nothing is due by, has none."""
+        answer, out = self.file("a.csv", "name,start\na,0\nb,3\n"), self.folder / "p.html"
+        all_have = ["No.", "Activity", "total float", "free float", "start", "end", "takes"]
+        for heads, rows, names in (("", "a,3\nb,4\n", all_have), (",crane (1)", "a,3,\nb,4,\n", all_have),
+                                   (",crane (1),due", "a,3,1,\nb,4,,8\n", [*all_have, "due", "late", "needs"])):
+            with self.subTest(heads=heads):
+                table = self.file("p.csv", f"activity,days{heads}\n{rows}")
+                self.assertEqual(plan("report", table, answer, "--out", out).returncode, 0)
+                found = re.findall('<th><span role="button" tabindex="0">(.*?)</span>', out.read_text())
+                self.assertEqual(found, names)
+
+    def test_critical_chain(self) -> None:
+        """By hand: b could not start later, since c follows; a could be behind b."""
+        table = self.file("p.csv", "activity,days,crane (1),after\na,3,1,\nb,4,1,\nc,1,,b\n")
+        answer, out = self.file("p.starts.csv", "name,start\na,0\nb,3\nc,7\n"), self.folder / "p.html"
+        self.assertEqual(plan("report", table, answer, "--out", out).returncode, 0)
+        [chain] = re.findall('<section id="chain">(.*?)</section>', out.read_text(), re.S)
+        rows = [re.sub("<.*?>", "|", row) for row in re.findall("<tr><td>(.*?)</td></tr>", chain)]
+        self.assertEqual(rows, ["2||b||3||7||4|||1 of crane, until then in use: 1 (a)|",
+                                "3||c||7||8||1|||3 (c) starts no sooner than 2 (b) ends|"])
+
     def test_a_picture_has_the_same_bars(self) -> None:
         """Of the page, but for where they stand, and with the same style."""
         table, answer = PROJECTS / "paint-line.csv", self.folder / "a.csv"

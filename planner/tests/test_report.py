@@ -124,7 +124,8 @@ class Report(InFolder):
 
     @unittest.skipUnless(browser.is_here() and PDFTOTEXT, f"{browser.MISSING}, or pdftotext")
     def test_pages(self) -> None:
-        """Each page has the title, the first has the facts, and none is empty; each activity is on one."""
+        """Each page has the title, the first has the facts, and none is empty; each activity is on one, and a full page has
+        30; the critical chain has a page of its own, and the use of resources is drawn, and not listed."""
         table, answer = PROJECTS / "twin-towers.csv", self.folder / "a.csv"
         self.assertEqual(plan("solve", table, "--out", answer).returncode, 0)
         path, out = self.file("t.html", self.page(table, answer)), self.folder / "t.pdf"
@@ -138,6 +139,11 @@ class Report(InFolder):
             self.assertIn(f"page {number} of {len(pages)}", one)
             self.assertTrue("twin-towers" in one and len(one.splitlines()) > 8, one)
         self.assertIn("activities", pages[0])
+        rows = [len(re.findall("^ *[0-9]+ +(?:east|west) ", one, re.M)) for one in pages]
+        self.assertEqual((sum(rows[:3]), min(rows[1], rows[-2]) >= 30), (60, True), rows)
+        heads = [one.split("\n\n")[1].strip().split("\n")[0] for one in pages]
+        self.assertLess({"Critical chain", "Activities"}, {*heads})
+        self.assertNotIn("in use", text.replace("until then in use", ""))
         for line in plan("write", table, answer).stdout.splitlines()[1:]:
             self.assertIn(" ".join(line.split(",")[:2]), re.sub(" +", " ", text))
 

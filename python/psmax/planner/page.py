@@ -18,13 +18,14 @@ from .chart import LOAD, NOT_KNOWN, ROW, STYLE, Chart, definitions, group, mark,
 from .drawing import Bar, Drawing
 from .headline import MISSED
 from .project_file import ProjectFile
+from .page_tables import Tables
 from .read_back import first_line
 from .window import Window
 from .wording import Words
 
 FOLDER = pathlib.Path(__file__).parent
-PLACES = ("headline", "made", "read", "facts", "proof", "definitions", "ruler", "arrows", "heads", "total", "lines", "rows",
-          "uses", "digest")
+PLACES = ("headline", "made", "read", "facts", "proof", "definitions", "ruler", "arrows", "heads", "chain", "total", "lines",
+          "loads", "rows", "uses", "digest")
 WIDTH = {"A4": 760, "A3": 1230}  # pixels of the time at least, so that it fits the paper on its side beside the names
 Rows = list[tuple[str, str]]  # rows of a table, each with what it is known by
 
@@ -62,8 +63,7 @@ class Page:
         self.shown: Drawing = drawing.make(view.opened, view.starts, "", (), drawing.Known(
             view.windows, critical, started, view.was, self.open), view.is_plan)
         self.chart = Chart(self.shown, round(zoom * WIDTH[paper]), has_shares=True)
-        self.activities = sorted((bar for bar in self.shown.bars if bar.activity is not None),
-                                 key=lambda bar: (bar.begins, bar.activity))
+        self.lists = Tables(view.opened, view.starts, self.shown, view.total, self.open)
         self.lags = self.said_of_lags()
 
     def parts(self) -> dict[str, str]:
@@ -78,7 +78,7 @@ class Page:
             "definitions": markup(definitions(), group(chart.grid(LOAD), id="grid")),
             "ruler": markup(picture(chart.ruler_height, chart.ruler())),
             "arrows": markup(mark("svg", width=chart.width, height=0), picture(chart.height, arrows)),
-            "heads": markup(*self.heads()),
+            "heads": markup(*self.lists.heads()), "chain": markup(*self.lists.chain()),
             "total": escape(self.said_of_total()), "digest": escape(self.view.digest),
         }
 
@@ -88,11 +88,11 @@ class Page:
         lines = [(key_of(bar) if bar.activity is not None else f"group {number}",
                   markup(self.line(bar.label, ROW, chart.bar(bar), chart.said(bar), bar.activity)))
                  for number, bar in enumerate(self.shown.bars)]
-        lines += [(f"load {number}", markup(self.line(f"{load.name}, {load.capacity}", LOAD, chart.load(load), "", None)))
-                  for number, load in enumerate(self.shown.loads)]
-        rows = [(key_of(bar), markup(self.row(bar))) for bar in self.activities]
-        uses = [(f"{number}", markup(row)) for number, row in enumerate(self.uses())]
-        return {"lines": lines, "rows": rows, "uses": uses}
+        loads = [(f"{number}", markup(self.line(f"{load.name}, {load.capacity}", LOAD, chart.load(load), "", None)))
+                 for number, load in enumerate(self.shown.loads)]
+        rows = [(key_of(bar), markup(row)) for bar, row in self.lists.rows()]
+        uses = [(f"{number}", markup(row)) for number, row in enumerate(self.lists.uses())]
+        return {"lines": lines, "loads": loads, "rows": rows, "uses": uses}
 
     def line(self, label: str, height: int, parts: list[Element], said: str, activity: int | None) -> Element:
         """A row of the chart, which paper keeps together."""
@@ -103,67 +103,10 @@ class Page:
         line.extend([mark("th", "", label, scope="row", title=label), cell])
         return line
 
-    def row(self, bar: Bar) -> Element:
-        """The cells of an activity, each with what it is sorted by."""
-        assert bar.activity is not None
-        length, needs = self.opened.length, self.needs(bar.activity)
-        cells: list[tuple[str, object]] = [
-            (bar.id, bar.activity), (bar.name, bar.name), self.total_float(bar.activity),
-            ("", -1) if bar.window is None else (length(bar.window.float), bar.window.float),
-            (bar.first, bar.begins), (bar.last, bar.ends), (length(bar.ends - bar.begins), bar.ends - bar.begins)]
-        if self.project.due:
-            late = 0 if bar.due is None else bar.ends - bar.due
-            cells += [("", ""), ("", 0)] if bar.due is None else [(self.words.by(bar.due), bar.due), (length(late), late)]
-        row = mark("tr", "activity", data_a=bar.activity)
-        row.extend([mark("td", "", text, data_key=key) for text, key in [*cells, (needs, needs)]])
-        return row
-
-    def needs(self, activity: int) -> str:
-        demands = enumerate(self.project.demands[activity])
-        return ", ".join(f"{self.words.names.resource(k)} {units}" for k, units in demands if units)
-
-    def total_float(self, activity: int) -> tuple[str, int]:
-        if self.view.total is None:
-            return "not known yet" if activity in self.open else "", -1
-        latest = self.view.total.found[activity]
-        return "critical" if latest.is_critical else latest.text(self.opened.length), latest.least - latest.start
-
-    def heads(self) -> list[Element]:
-        dated = self.shown.calendar.heads if self.shown.calendar else ("start", "end")
-        found = []
-        for name in ["ID" if self.opened.names.ids else "No.", "Activity", "total float", "free float", *dated, "takes",
-                     *(["due", "late"] if self.project.due else []), "needs"]:
-            found.append(mark("th"))
-            found[-1].append(mark("span", "", name, role="button", tabindex=0))
-        return found
-
-    def uses(self) -> Iterable[Element]:
-        """The use of each resource, and what of it is away, as a table."""
-        for load in self.shown.loads if self.view.is_plan else ():
-            told = [(one.begins, one.ends, one.units, 0) for one in load.stretches]
-            told += [(one.begins, one.ends, 0, one.units) for one in load.away]
-            for begins, ends, used, away in sorted(told):
-                row = mark("tr")
-                texts = [load.name, self.words.time(begins), self.words.by(ends), used or "", away or "", load.capacity]
-                row.extend([mark("td", "", f"{text}") for text in texts])
-                yield row
-
     def told(self) -> dict[int, dict[str, object]]:
         """What is shown of an activity that is chosen, or that a pointer is on."""
-        return {bar.activity: {"name": bar.label, "card": self.card(bar), "lags": self.lags.get(bar.activity, [])}
-                for bar in self.activities if bar.activity is not None}
-
-    def card(self, bar: Bar) -> list[str]:
-        """Its dates, its floats, what it needs, and what holds it."""
-        assert bar.activity is not None
-        if not self.view.is_plan:
-            return [f"before: {bar.first} to {bar.last}"]
-        total, _ = self.total_float(bar.activity)
-        floats = [f"total float: {total}"] if total else []
-        floats += [f"free float: {self.opened.length(bar.window.float)}"] if bar.window is not None else []
-        before = [] if bar.was is None else [f"before: {self.shown.span(*bar.was)}"]
-        return [f"{bar.first} to {bar.last}", *floats, f"needs: {self.needs(bar.activity) or 'nothing'}", *before,
-                *(f"held: {text}" for text in held(self.words, self.view.starts, bar.activity))]
+        return {bar.activity: {"name": bar.label, "card": self.lists.card(bar), "lags": self.lags.get(bar.activity, [])}
+                for bar in self.lists.activities if bar.activity is not None}
 
     def said_of_lags(self) -> dict[int, list[str]]:
         """The lags of each activity in words, with how much they leave."""
@@ -187,7 +130,7 @@ class Page:
     def facts(self) -> list[Element]:
         ends, project, opened = max([0, *self.project.ends(self.view.starts)]), self.project, self.opened
         whole = count(ends, opened.names.unit or "periods") if opened.is_own() else fact(opened.length(ends), "of work")
-        found = [*([whole] if self.view.is_plan else []), count(len(self.activities), "activities")]
+        found = [*([whole] if self.view.is_plan else []), count(len(self.lists.activities), "activities")]
         critical = [] if self.view.total is None else self.view.total.critical()
         found += [count(len(critical), "critical")] if critical or not self.open and self.view.is_plan else []
         found += [fact(f"{len(self.open)}", NOT_KNOWN)] if self.open else []
@@ -235,22 +178,6 @@ def fact(figure: str, what: str) -> Element:
     made.append(mark("b", "", figure))
     made[0].tail = what
     return made
-
-
-def held(words: Words, starts: tuple[int, ...], activity: int) -> list[str]:
-    """Why an activity can't start one period sooner while the others stay."""
-    project, start = words.project, starts[activity]
-    told = [words.lag(arc) for arc in project.arcs if arc.head == activity and project.slack(arc, starts) == 0]
-    if not start:
-        return [*told, "the project starts then"]
-    for resource, units in enumerate(project.demands[activity]):
-        others, away = project.users(resource, starts, start - 1), project.away(resource, start - 1)
-        used = sum(project.demands[i][resource] for i in others) + away
-        if units and project.durations[activity] and used + units > project.capacities[resource]:
-            by = [*map(words.names.activity, others), *([f"{away} away"] if away else [])]
-            why = "outside its hours" if project.is_off(resource, start - 1) else f"in use: {', '.join(by)}"
-            told.append(f"{units} of {words.names.resource(resource)}, until then {why}")
-    return told
 
 
 @dataclass(frozen=True)

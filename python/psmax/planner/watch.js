@@ -39,13 +39,14 @@ function rechoose() {
 function draw(state) {
   const focus = document.activeElement.closest("tbody [data-a]"), body = focus && focus.parentElement.id;
   const key = focus && focus.dataset.key, head = document.querySelector("#heads th[aria-sort]");
-  const place = head && head.cellIndex, way = head && head.ariaSort === "ascending" ? 1 : -1;
+  const name = head && head.textContent, way = head && head.ariaSort === "ascending" ? 1 : -1;
   page.told = state.told;
   for (const [id, markup] of Object.entries(state.parts)) {
     if (watch.seen[id] !== markup) byId(id).innerHTML = watch.seen[id] = markup;
   }
   for (const [id, rows] of Object.entries(state.tables)) update(byId(id), rows);
-  if (head) sortBy(byId("heads").children[place], way);
+  const column = [...byId("heads").children].find((one) => one.textContent === name);
+  if (column) sortBy(column, way);
   byId("proof").classList.toggle("open", !state.shortest);
   rechoose();
   reachable();
