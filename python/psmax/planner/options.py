@@ -186,7 +186,9 @@ def table(options: argparse.Namespace) -> "Sheet":
 def add_write(one: argparse.ArgumentParser) -> None:
     add_schedule(one)
     add_table(one)
-    one.add_argument("--resource", metavar="NAME", help="write only what needs this resource into a calendar")
+    one.add_argument("--daily", action="store_true", help="write what each resource does on each day, as a page of HTML")
+    one.add_argument("--resource", metavar="NAME",
+                     help="write only what needs this resource into a calendar or a daily list")
     one.add_argument("--total", action="store_true", help="prove total floats for a spreadsheet file")
     add_start(one)
     add_limits(one)
@@ -196,7 +198,7 @@ def add_write(one: argparse.ArgumentParser) -> None:
 def run_write(options: argparse.Namespace) -> int:
     from . import floats, write
     total = floats.Total(options.seconds, options.jobs, start(options)) if options.total else None
-    return write.write(opened(options), options.answer, table(options), options.resource, total)
+    return write.write(opened(options), options.answer, table(options), options.resource, total, options.daily)
 
 
 def add_float(one: argparse.ArgumentParser) -> None:

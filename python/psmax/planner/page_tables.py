@@ -83,7 +83,8 @@ class Tables:
             told = [(one.begins, one.ends, one.units, 0) for one in load.stretches]
             told += [(one.begins, one.ends, 0, one.units) for one in load.away]
             for begins, ends, used, away in sorted(told):
-                texts = [load.name, self.words.time(begins), self.words.by(ends), used or "", away or "", load.capacity]
+                times = self.words.time(begins), self.words.by(ends)
+                texts = [load.name, *times, used or "", away or "", load.capacity]
                 yield filled("tr", (mark("td", "", f"{text}") for text in texts))
 
     def card(self, bar: Bar) -> list[str]:

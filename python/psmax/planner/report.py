@@ -21,8 +21,7 @@ from .page import Page, View, html
 from .project_file import ProjectFile
 from .verify import Verdict, verdict
 from .window import windows
-
-BEGIN = b"<!DOCTYPE html>"
+from .write import BEGIN
 
 
 @dataclass(frozen=True)

@@ -27,6 +27,7 @@ from .window import windows
 if TYPE_CHECKING:
     from .floats import Total
 
+HTML, BEGIN = ".html", b"<!DOCTYPE html>"  # how the name of a page ends, and how it begins
 HEADS = ["activity", "name", "start", "takes", "end"]  # and what they count, where a period is none of the table's own
 
 
@@ -110,16 +111,22 @@ def into_workbook(opened: ProjectFile, starts: tuple[int, ...], out: str, wanted
 
 
 def write(opened: ProjectFile, given: str | None, sheet: Sheet, resource: str | None = None,
-          total: "Total | None" = None) -> int:
+          total: "Total | None" = None, is_daily: bool = False) -> int:
     """As a table, or as what the suffix of the file says."""
     lose_none(opened.inputs() | {"the answer": given or STANDARD_INPUT}, [sheet.out])
     suffix = pathlib.PurePath(sheet.out or "").suffix.lower()
     if total is not None and suffix != SUFFIX:
         raise BadInput(f"--total is for a spreadsheet file, which --out names with {SUFFIX}; plan float has it for others")
-    if resource is not None and suffix != icalendar.SUFFIX:
-        raise BadInput(f"--resource is for a calendar, which --out names with {icalendar.SUFFIX}")
+    if resource is not None and suffix != icalendar.SUFFIX and not is_daily:
+        raise BadInput(f"--resource is for --daily, and for a calendar, which --out names with {icalendar.SUFFIX}")
+    if is_daily and suffix not in (HTML, ""):
+        raise BadInput(f"--daily writes a page of HTML, which --out names with {HTML}")
     known = feasible(opened, read_answer(given), Psmax(Clock(), opened.path))
-    if suffix == icalendar.SUFFIX:
+    if is_daily:
+        from .daily import List
+        must_be_like(sheet.out, BEGIN, "page of HTML")
+        put(List(opened, known.starts, resource).page(pathlib.Path(opened.path).stem), sheet.out)
+    elif suffix == icalendar.SUFFIX:
         must_be_like(sheet.out, icalendar.BEGIN, "calendar")
         put(icalendar.calendar_text(opened, known.starts, resource, datetime.datetime.now(datetime.UTC)), sheet.out)
     elif suffix == SUFFIX:
