@@ -202,19 +202,20 @@ def no_input(calls: Calls) -> Tried:
 
 
 def no_files(calls: Calls) -> Tried:
-    """Names of what cannot be opened or read, for each file of a call. Nothing is written then."""
+    """Names of what cannot be opened or read, for each file of a call. Nothing is written then. A record goes where a link
+    leads, which is what the fault names then."""
     for call in calls.each_options():
         for name in call.files(*INPUTS, "--record"):
             for what, put in UNREADABLE.items():
-                is_link = what in ("a link to itself", "a path through a file", "a name that is too long")
-                if name == "record" and (what in ("nothing", "what cannot be read") or "--under" in call.words and is_link):
-                    continue  # it is written; the record of a cube takes the place of a link
+                if name == "record" and what in ("nothing", "what cannot be read"):
+                    continue  # it is written
                 with Run(calls.program, call) as run:
                     file = run.folder / name
                     file.unlink(missing_ok=True)
                     put(file)
                     ended = run.ended()
-                    told = "cannot read", f"cannot open {name}", f"cannot open {name}.part"
+                    leads_to = os.readlink(file) if name == "record" and file.is_symlink() else name
+                    told = "cannot read", f"cannot open {name}", f"cannot open {leads_to}"
                     yield call, f"{what} as {name}", any(calls.is_fault(ended, run, one) for one in told), ended
 
 
