@@ -69,7 +69,7 @@ def main() -> None:
     measuring.heads("Table", "Activities", "on the screen: median s", "most s", "search ended: median s",
                     "drawn anew: median s", "most s")
     with tempfile.TemporaryDirectory(ignore_cleanup_errors=True) as kept:
-        driver = browser.chromium(f"{kept}/browser")
+        driver = browser.chromium()
         for name, (count, made) in TABLES.items():
             table = pathlib.Path(kept) / f"{name}.csv"
             shutil.copy(PROJECTS / "turnaround-absences.csv", kept)

@@ -45,7 +45,8 @@ def main() -> None:
         table = pathlib.Path("hall.csv")
         for name in (table.name, "hall-holidays.txt"):
             shutil.copy(EXAMPLES / name, folder)
-        driver = browser.chromium(f"{folder}/browser", *SIZE)
+        driver = browser.chromium()
+        driver.set_window_size(*SIZE)
         with Watching(table) as watch:
             watch.until(done("optimal 27"))
             driver.get(watch.address)

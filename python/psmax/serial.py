@@ -1,9 +1,12 @@
-"""A schedule by the serial method (Kelley 1963): one activity after another, each as soon as its minimum lags and the
-resources leave it. It may break maximum lags, so it says about how long a project takes, and proves nothing."""
+"""Schedules by the serial method (Kelley 1963): one activity after another, each as soon as its minimum lags and the
+resources leave it. One may break maximum lags, so it says about how long a project takes, and proves nothing."""
 from bisect import bisect_right
-from dataclasses import dataclass, field
+from collections.abc import Mapping
+from dataclasses import dataclass, field, replace
 
-from .project import Project, least_starts
+from .project import MOST_UNITS, Arc, Project, least_end, least_starts
+
+PASSES = 40  # of the serial method, until no maximum lag is broken
 
 
 @dataclass
@@ -12,6 +15,9 @@ class Profile:
 
     times: list[int] = field(default_factory=lambda: [0])
     units: list[int] = field(default_factory=lambda: [0])
+
+    def copied(self) -> "Profile":
+        return Profile([*self.times], [*self.units])
 
     def add(self, begins: int, ends: int, units: int) -> None:
         for place in range(self.cut(begins), self.cut(ends)):
@@ -36,25 +42,56 @@ class Profile:
         return start
 
 
+class Serial:
+    """The method for one project, from other least starts each time."""
+
+    def __init__(self, project: Project, until: int) -> None:
+        self.project, self.until = project, until
+        self.away = [Profile() for _ in project.capacities]
+        for one in project.all_absences():
+            ends = max(one.begins, until) if one.ends is None else one.ends
+            self.away[one.resource].add(one.begins, ends, one.units)
+        self.before: list[list[tuple[int, int]]] = [[] for _ in project.durations]
+        for tail, head, lag in project.rules():
+            self.before[head].append((tail, lag))
+
+    def starts(self, least: list[int]) -> dict[int, int] | None:
+        """Each activity in the order of the least starts; none where one ends behind `until`."""
+        use, starts = [one.copied() for one in self.away], {0: 0}
+        for _, i in sorted((time, i) for i, time in enumerate(least[: self.project.end]) if i):
+            soonest = max([least[i], *(starts[tail] + lag for tail, lag in self.before[i] if tail in starts)])
+            starts[i] = place(self.project, use, i, soonest)
+            if starts[i] + self.project.durations[i] > self.until:
+                return None
+        return starts
+
+
 def serial_end(project: Project, until: int) -> int | None:
     """When all has ended; none where that is behind a time, up to which the hours of resources are known."""
     least = least_starts(project)
     if least is None:
         return 0
-    use = [Profile() for _ in project.capacities]
-    for one in project.all_absences():
-        ends = max(one.begins, until) if one.ends is None else one.ends
-        use[one.resource].add(one.begins, ends, one.units)
-    before: list[list[tuple[int, int]]] = [[] for _ in least]
-    for tail, head, lag in project.rules():
-        before[head].append((tail, lag))
-    starts, order = {0: 0}, sorted((time, i) for i, time in enumerate(least[: project.end]) if i)
-    for _, i in order:
-        soonest = max([least[i], *(starts[tail] + lag for tail, lag in before[i] if tail in starts)])
-        starts[i] = place(project, use, i, soonest)
-        if starts[i] + project.durations[i] > until:
+    starts = Serial(project, until).starts(least)
+    return None if starts is None else max([0, *(start + project.durations[i] for i, start in starts.items())])
+
+
+def near(project: Project, old: Mapping[int, int]) -> tuple[int, ...] | None:
+    """Starts in the order of old ones, and none sooner: what comes too late for a maximum lag makes the other one of
+    that wait, in another pass. Lags and resources are kept, but perhaps not lags in calendar days. None where so many
+    passes find nothing."""
+    serial, waits = Serial(project, 2 * MOST_UNITS), dict(old)
+    for _ in range(PASSES):
+        least = least_starts(replace(project, arcs=(*project.arcs, *(Arc(0, i, time) for i, time in waits.items()))))
+        starts = None if least is None else serial.starts(least)
+        if starts is None:
             return None
-    return max([0, *(start + project.durations[i] for i, start in starts.items())])
+        broken = [arc for arc in project.arcs
+                  if arc.head != project.end and starts[arc.head] < starts[arc.tail] + arc.lag]
+        if not broken:
+            return *(starts[i] for i in range(project.end)), least_end(project, starts)
+        for arc in broken:
+            waits[arc.head] = max(waits.get(arc.head, 0), starts[arc.tail] + arc.lag)
+    return None
 
 
 def place(project: Project, use: list[Profile], activity: int, soonest: int) -> int:

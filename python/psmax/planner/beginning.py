@@ -4,7 +4,7 @@ from dataclasses import dataclass, field, replace
 from ..clock import Clock
 from ..errors import BadInput
 from ..letters import at_most
-from ..project import MOST_ARCS, Arc, Project, in_order
+from ..project import MOST_ARCS, Arc, Project
 from ..psmax import Psmax
 from .answer import Answer, Tied, counted, feasible, tie
 from .answer_text import AnswerText, read_answer
@@ -30,7 +30,7 @@ class Start:
 class Beginning:
     project: Project  # that is searched
     schedules: list[tuple[tuple[int, ...], str]] = field(default_factory=list)  # each with what it is called
-    repairs: list[Project] = field(default_factory=list)  # it with more lags, of which a schedule is like an old one
+    old: dict[int, int] = field(default_factory=dict)  # starts in a plan before, near to which the search begins
     frozen: tuple[Arc, ...] = ()  # that keep what has started, and the rest from starting before that
     started: frozenset[int] = frozenset()
     told: list[str] = field(default_factory=list)
@@ -109,14 +109,7 @@ def from_old(opened: ProjectFile, given: AnswerText, tied: Tied, progress: Progr
         schedules += [] if broken else [(starts, given.called)]
     for circle in circles(limited, psmax):
         told += in_words(circle, words)
-    return Beginning(limited, schedules, repairs(limited, old), arcs, frozenset(progress.started), told)
-
-
-def repairs(project: Project, old: dict[int, int]) -> list[Project]:
-    """The project in the order of an old schedule: first with no start before the old one, then without that."""
-    ordered = in_order(project, old)
-    later = tuple(Arc(0, i, start) for i, start in old.items())[: MOST_ARCS - len(ordered.arcs)]
-    return [replace(ordered, arcs=ordered.arcs + later), ordered]
+    return Beginning(limited, schedules, old, arcs, frozenset(progress.started), told)
 
 
 def must_be_possible(opened: ProjectFile, called: str, started: dict[int, int]) -> None:

@@ -2,6 +2,7 @@
 from collections.abc import Collection, Iterable, Sequence
 from xml.etree.ElementTree import Element
 
+from ..project import Arc
 from ..total import TotalFloat
 from .chart import mark
 from .drawing import Bar, Drawing
@@ -17,6 +18,9 @@ class Tables:
                  unknown: Collection[int]) -> None:
         self.opened, self.starts, self.shown, self.total, self.unknown = opened, starts, shown, total, unknown
         self.words = Words(opened)
+        self.before: dict[int, list[Arc]] = {}  # the lags by which each activity waits
+        for arc in opened.project.arcs:
+            self.before.setdefault(arc.head, []).append(arc)
         self.activities = sorted((bar for bar in shown.bars if bar.activity is not None),
                                  key=lambda bar: (bar.begins, bar.activity))
         self.columns = {name: cells for name, cells in self.all_columns() if any(text for text, _ in cells)}
@@ -68,7 +72,7 @@ class Tables:
         """The critical activities in the order of their starts, each with what holds it; nothing where none is known."""
         rows = []
         for bar in (bar for bar in self.activities if bar.is_critical and bar.activity is not None):
-            holds = [mark("div", "", text) for text in held(self.words, self.starts, bar.activity or 0)]
+            holds = [mark("div", "", text) for text in self.held(bar.activity or 0)]
             texts = bar.id, bar.name, bar.first, bar.last, self.opened.length(bar.ends - bar.begins)
             rows.append(filled("tr", [*(mark("td", "", text) for text in texts), filled("td", holds)]))
         names = "ID" if self.opened.names.ids else "No.", "Activity", *self.dated(), "takes", "held by"
@@ -97,26 +101,27 @@ class Tables:
         floats += [f"free float: {self.opened.length(bar.window.float)}"] if bar.window is not None else []
         before = [] if bar.was is None else [f"before: {self.shown.span(*bar.was)}"]
         return [f"{bar.first} to {bar.last}", *floats, f"needs: {self.needs(bar.activity) or 'nothing'}", *before,
-                *(f"held: {text}" for text in held(self.words, self.starts, bar.activity))]
+                *(f"held: {text}" for text in self.held(bar.activity))]
+
+    def held(self, activity: int) -> list[str]:
+        """Why an activity can't start one period sooner while the others stay."""
+        project, words, start = self.opened.project, self.words, self.starts[activity]
+        told = [words.lag(arc) for arc in self.before.get(activity, ()) if project.slack(arc, self.starts) == 0]
+        if not start:
+            return [*told, "the project starts then"]
+        for resource, units in enumerate(project.demands[activity] if project.durations[activity] else ()):
+            if not units:
+                continue
+            others, away = project.users(resource, self.starts, start - 1), project.away(resource, start - 1)
+            used = sum(project.demands[i][resource] for i in others) + away
+            if used + units > project.capacities[resource]:
+                by = [*map(words.names.activity, others), *([f"{away} away"] if away else [])]
+                why = "outside its hours" if project.is_off(resource, start - 1) else f"in use: {', '.join(by)}"
+                told.append(f"{units} of {words.names.resource(resource)}, until then {why}")
+        return told
 
 
 def filled(tag: str, parts: Iterable[Element], kind: str = "", **places: str) -> Element:
     made = mark(tag, kind, "", **places)
     made.extend([*parts])
     return made
-
-
-def held(words: Words, starts: Sequence[int], activity: int) -> list[str]:
-    """Why an activity can't start one period sooner while the others stay."""
-    project, start = words.project, starts[activity]
-    told = [words.lag(arc) for arc in project.arcs if arc.head == activity and project.slack(arc, starts) == 0]
-    if not start:
-        return [*told, "the project starts then"]
-    for resource, units in enumerate(project.demands[activity]):
-        others, away = project.users(resource, starts, start - 1), project.away(resource, start - 1)
-        used = sum(project.demands[i][resource] for i in others) + away
-        if units and project.durations[activity] and used + units > project.capacities[resource]:
-            by = [*map(words.names.activity, others), *([f"{away} away"] if away else [])]
-            why = "outside its hours" if project.is_off(resource, start - 1) else f"in use: {', '.join(by)}"
-            told.append(f"{units} of {words.names.resource(resource)}, until then {why}")
-    return told

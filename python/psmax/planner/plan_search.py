@@ -78,7 +78,7 @@ class PlanSearch(threading.Thread):
         for starts, called in self.beginning.schedules:
             known.offer(starts, called)
         psprove = Psprove(self.clock, self.opened.path)
-        search(self.beginning.project, psprove, known, self.limits.jobs, self.beginning.repairs)
+        search(self.beginning.project, psprove, known, self.limits.jobs, self.beginning.old)
         if known.value is None and not known.none and self.opened.project.horizon is not None:
             self.learn(trouble=(Words(self.opened).nothing_within(known.bound),))
         if known.record:

@@ -75,7 +75,7 @@ def solve(opened: ProjectFile, start: Start, options: Options) -> int:
         else:
             psprove = Psprove(clock, opened.path)
             near = start.answer or (before.called if before is not None else "")
-            search(beginning.project, psprove, known, options.jobs, beginning.repairs, near)
+            search(beginning.project, psprove, known, options.jobs, beginning.old, near)
     except Failed:
         if known.starts is not None:
             give(known, opened, options, kept)
