@@ -103,7 +103,7 @@ def without_name(trial: Trial) -> str | None:
     (trial.folder / "record").mkdir()
     (trial.folder / "end").touch()
     out, fault = ran.communicate(timeout=harness.TIMEOUT)
-    if (ran.returncode, fault) != (1, b"psprove: cannot open record\n"):
+    if (ran.returncode, fault) != (1, b"psprove: cannot write\n"):
         return f"ends with {ran.returncode}, {fault!r}"
     return trial.wrong_answer(out) or trial.wrong_record(out, "record.part")
 
