@@ -164,6 +164,8 @@ class Chart:
 
     def dates(self, bar: Bar) -> list[Element]:
         """Behind the bar, or before it where its float or the edge is behind; within it where there is no room else."""
+        if not bar.dates:
+            return []
         begins, ends = map(self.pixel, self.axis.of(bar))
         first, last, room = *self.reach(bar), LETTER * len(bar.dates) + GAP
         point = GAP if bar.activity is not None and bar.begins < bar.ends else GAP + 6

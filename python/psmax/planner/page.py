@@ -69,6 +69,7 @@ class Page:
     def parts(self) -> dict[str, str]:
         """Markup by the place where it stands."""
         chart, starts = self.chart, self.view.starts
+        height = chart.height + (LOAD + 1) * len(self.shown.loads)
         arrows = chart.circle(self.view.circle, self.words) if not self.view.is_plan else chart.arrows(
             self.project.arcs, starts, self.words)
         return {
@@ -77,7 +78,8 @@ class Page:
             "proof": markup(*in_code(self.view.proof)),
             "definitions": markup(definitions(), group(chart.grid(LOAD), id="grid")),
             "ruler": markup(picture(chart.ruler_height, chart.ruler())),
-            "arrows": markup(mark("svg", width=chart.width, height=0), picture(chart.height, arrows)),
+            "arrows": markup(mark("svg", width=chart.width, height=0), picture(height, chart.grid(height), kind="behind"),
+                             picture(chart.height, arrows)),
             "heads": markup(*self.lists.heads()), "chain": markup(*self.lists.chain()),
             "total": escape(self.said_of_total()), "digest": escape(self.view.digest),
         }
@@ -95,7 +97,8 @@ class Page:
         return {"lines": lines, "loads": loads, "rows": rows, "uses": uses}
 
     def line(self, label: str, height: int, parts: list[Element], said: str, activity: int | None) -> Element:
-        """A row of the chart, which paper keeps together."""
+        """A row of the chart, which paper keeps together. There it has its own grid behind it; on a screen all rows have
+        one, since a thousand take long to draw."""
         kind = "load" if height == LOAD else "line" if activity is not None else "line group"
         line = mark("tr", kind) if activity is None else mark("tr", kind, data_a=activity)
         cell = mark("td")
@@ -155,8 +158,8 @@ def key_of(bar: Bar) -> str:
     return f"activity {bar.name or bar.activity}"
 
 
-def picture(height: int, parts: Iterable[Element], said: str = "") -> Element:
-    made = mark("svg", width="100%", height=height, **(dict(role="img", aria_label=said) if said else {}))
+def picture(height: int, parts: Iterable[Element], said: str = "", kind: str = "") -> Element:
+    made = mark("svg", kind, width="100%", height=height, **(dict(role="img", aria_label=said) if said else {}))
     made.extend([*parts])
     return made
 

@@ -9,7 +9,7 @@ from .crew_hours import DAY_SHIFT, read_hours
 from .drawing import Bar, Drawing, round_step
 
 LETTER = 6.5  # pixels of a letter, about
-MARK = 60  # pixels from one number to the next, at least
+MARK = 100  # pixels from one number to the next, at least
 DAYS = {"year": 365, "month": 28, "week": 7, "day": 1, "6 hours": 0.25, "hour": 1 / 24}  # that a band has at least
 ROOM = {"year": 30, "month": 26, "week": 18, "day": 17, "6 hours": 18, "hour": 18}  # pixels of a band, at least
 BANDS = {"hour": ("month", "day", "hour"), "6 hours": ("month", "day", "6 hours"), "day": ("month", "week", "day"),
