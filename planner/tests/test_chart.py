@@ -136,13 +136,13 @@ class Pictures(InFolder):
         return found, re.findall('<text class="dates[^>]*>([^<]*)<', text)
 
     def test_over_a_weekend(self) -> None:
-        """From Thursday: a ends that evening, b goes on after the weekend."""
-        table = "from,2026-04-02\nworkdays,mon-fri\nactivity,days,crew (2),after\na,1,1,\nb,2,2,a\nc,2,,b\n"
-        found, dates = self.boxes(table, "a,0\nb,1\nc,3\n")
-        self.assertEqual(found["bar"], [(0, 1), (1, 5), (5, 7)])
+        """From Thursday: a ends on Friday, b begins on Monday, and c goes on over the weekend."""
+        table = "from,2026-04-02\nworkdays,mon-fri\nactivity,days,crew (2),after\na,2,1,\nb,2,2,a\nc,3,,\n"
+        found, dates = self.boxes(table, "a,0\nb,2\nc,0\n")
+        self.assertEqual(found["bar"], [(0, 2), (4, 6), (0, 5)])
         self.assertEqual(found["free"], [(2, 4)] * 2)  # behind all rows, and before the use of the crew
-        self.assertEqual(found["use"], [(0, 1), (1, 5)])
-        self.assertEqual(dates, ["04-02", "04-03 \u2013 04-06", "04-07 \u2013 04-08"])
+        self.assertEqual(found["use"], [(0, 2), (4, 6)])
+        self.assertEqual(dates, ["04-02 \u2013 04-03", "04-06 \u2013 04-07", "04-02 \u2013 04-06"])
 
     def test_done_and_remains(self) -> None:
         """On Wednesday: a ended on Monday, b has two days of four behind it, and c waits."""
