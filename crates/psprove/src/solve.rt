@@ -7,7 +7,7 @@ use crate::program::Program;
 use crate::record_file::RecordFile;
 use crate::reports::ReportForm;
 use command_line::{refuse_files, report};
-use devices::{CallFiles, Ended, FileNames, InputReader, Opener, OutputWriter};
+use devices::{Ended, FileNames, InputReader, Opener, OutputWriter};
 use either::Either;
 use psprove_run::SolveOptions;
 use std::alloc::Global;
@@ -61,27 +61,17 @@ fn names_of<'a>(
     }
 }
 
-/// Opens the files of a call, and that of its project if it has a name. Nothing is opened where one would be lost.
-fn open_files<'w, R: Runtime>(
+/// Opens the file of the project, if it has a name.
+fn open_project<'w, R: Runtime>(
     rt: &R,
-    alloc: Global,
     call: &'w SolveCall,
-    names: &FileNames<'_>,
-) -> Result<(Option<R::File>, CallFiles<R::File>), Failure<'w>> {
-    let mut opener = Opener::new(alloc, rt);
-    if let Err(fault) = opener.check(names) {
-        return Err(Failure::Printed(refuse_files(rt, PROGRAM, names, fault)));
-    }
-    let project = match &call.project {
-        None => None,
-        Some(name) => {
-            let file = fs::open(rt, name.as_str());
-            Some(file.map_err(|error| Failure::of_file(&error, name))?)
-        }
+) -> Result<Option<R::File>, Failure<'w>> {
+    let Some(name) = &call.project else {
+        return Ok(None);
     };
-    match opener.open(names) {
-        Ok(files) => Ok((project, files)),
-        Err(fault) => Err(Failure::Printed(refuse_files(rt, PROGRAM, names, fault))),
+    match fs::open(rt, name.as_str()) {
+        Ok(file) => Ok(Some(file)),
+        Err(error) => Err(Failure::of_file(&error, name)),
     }
 }
 
@@ -111,7 +101,11 @@ pub(crate) fn solve<'w, R: Runtime + Threads + Wait + Sync>(
     };
     let mut program = Program::new(rt, alloc, call, heard)?;
     let names = names_of(call, record.as_ref(), &program.files);
-    let (project, files) = open_files(rt, alloc, call, &names)?;
+    let project = open_project(rt, call)?;
+    let files = match Opener::new(alloc, rt).open(&names) {
+        Ok(files) => files,
+        Err(fault) => return Ok(refuse_files(rt, PROGRAM, &names, fault)),
+    };
     let mut input = InputReader::new(match project {
         None => Either::Left(rt.reader()),
         Some(file) => Either::Right(file),
