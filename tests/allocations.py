@@ -30,6 +30,7 @@ def runs_of(made: pathlib.Path, program: str, ends: Ends, call: Call) -> Iterato
                 allocation += 1
                 call.put_files(folder)
                 (folder / "record").write_bytes(b"")
+                (folder / "record.part").unlink(missing_ok=True)  # a run without memory leaves what it proved
                 ended, refused = refusing.run(refuse(allocation))
                 record = (folder / "record").read_bytes()
                 without = 0 if refused else without + 1

@@ -122,6 +122,7 @@ def by_jobs(program: str, folder: pathlib.Path) -> Tried:
         later = threads_of(ran)
         ran.kill()
         ran.communicate()
+        (folder / "record.part").unlink(missing_ok=True)
         yield f"{jobs} jobs {more}", most == later == jobs, f"{most} and then {later} threads"
 
 
@@ -137,6 +138,7 @@ def of_cubes(program: str, made: pathlib.Path, folder: pathlib.Path) -> Tried:
         later = threads_of(ran)
         ran.kill()
         ran.communicate()
+        (folder / "cube.log.part").unlink(missing_ok=True)
         yield f"a cube {more}", most == later == threads, f"{most} and then {later} threads"
     got = Refusing(made, [*words, "--follow"], b"", folder).ended({"REFUSE_THREADS": "1"}, SECONDS)
     yield "a cube, its thread refused", got == (1, b"", NO_THREAD) and not (folder / "cube.log").exists(), got

@@ -131,6 +131,6 @@ class Mspdi(InFolder):
         self.assertIn("DTSTART;VALUE=DATE:20260318\r\nDTEND;VALUE=DATE:20260320\r\nSUMMARY:pave", (
             self.folder / "b.ics").read_bytes().decode())
         self.refused(plan("write", path, best, "--out", crane, "--resource", "lorry"), 2, "no resource 'lorry'")
-        self.refused(plan("write", path, best, "--resource", "crane"), 2, "--resource is for a calendar")
+        self.refused(plan("write", path, best, "--resource", "crane"), 2, "--resource is for --daily, and for a calendar")
         self.refused(plan("write", path, best, "--out", self.file("x.ics", "mine")), 2, "x.ics is there, and no calendar")
         self.refused(plan("write", bridge, self.folder / "bridge.csv", "--out", self.folder / "b.xml"), 2, "no project of")
