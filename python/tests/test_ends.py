@@ -9,7 +9,7 @@ import unittest
 from collections.abc import Callable
 from unittest import mock
 
-from planner.tests.helpers import CALLED, PLAN, PSPROVE, TOP, TWO, InFolder, job_shop
+from planner.tests.helpers import CALLED, PLAN, PSMAX, PSPROVE, TOP, TWO, InFolder, job_shop
 from psmax.process import tied
 
 PATIENCE = 30.0  # seconds in which a process has to end on a machine that does other work too
@@ -90,11 +90,14 @@ class Ends(InFolder):
 
     def test_by_a_pipe(self) -> None:
         """Where there is no `setpriv`, a search ends since its standard input does."""
-        psprove, project = self.program("psprove", f'{self.begin}exec {PSPROVE} "$@"'), self.file("shop.sch", job_shop())
+        paths, project = "export PATH=/usr/bin:/bin\n", self.file("shop.sch", job_shop())
+        psprove = self.program("psprove", f'{self.begin}{paths}exec {PSPROVE} "$@"')
+        psmax = self.program("psmax", f'{paths}exec {PSMAX} "$@"')
         calls = (SOLVE, end(signal.SIGKILL)), (SOLVE, end(signal.SIGTERM)), (POOL, wait)
         for script, ends in calls:
             with self.subTest(script.removeprefix(BEGIN), ends=ends):
-                self.left([sys.executable, "-c", script, str(project), str(self.pid)], ends, PSPROVE=psprove, PATH="")
+                words = [sys.executable, "-c", script, str(project), str(self.pid)]
+                self.left(words, ends, PSPROVE=psprove, PSMAX=psmax, PATH="")
 
     def test_plan(self) -> None:
         """Also the searches of a batch, which are processes of their own."""
