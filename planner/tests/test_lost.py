@@ -5,6 +5,8 @@ import signal
 import subprocess
 import sys
 import time
+from typing import NoReturn
+from unittest import mock
 
 from psmax.clock import ENDS
 
@@ -133,8 +135,22 @@ class Results(InFolder):
         self.refused(plan("solve", self.file("p.sch", "x"), "--out", self.file("best", STARTS)), 2, "p.sch: word 0")
 
 
+def cut_off(*_: object) -> NoReturn:
+    """As argparse does where it is interrupted between two of its steps."""
+    try:
+        raise KeyboardInterrupt
+    finally:
+        raise AttributeError("save_nargs")
+
+
 class Ends(InFolder):
     """Ctrl-C, a request to end and a terminal that closes end every command alike."""
+
+    def test_on_the_way_out(self) -> None:
+        """What fails since a command was interrupted is no fault of plan."""
+        with mock.patch("psmax.planner.main.parsed", cut_off):
+            ran = plan("solve", TWO_JOBS)
+        self.assertEqual((ran.returncode, ran.stderr), (130, "plan: interrupted\n"))
 
     def test_at_any_moment(self) -> None:
         path = self.hard()

@@ -46,6 +46,8 @@ def answered(arguments: Sequence[str]) -> int:
         os.dup2(os.open(os.devnull, os.O_WRONLY), sys.stdout.fileno())
         return 1
     except Exception as fault:
+        if isinstance(fault.__context__, KeyboardInterrupt):  # argparse fails to undo what it has not done yet
+            raise fault.__context__
         status, texts = explained(fault)
         return failed(status, *texts)
 
