@@ -27,7 +27,7 @@ class Day:
     ends: int
 
 
-class List:
+class DailyList:
     def __init__(self, opened: ProjectFile, starts: tuple[int, ...], resource: str | None) -> None:
         if opened.calendar is None:
             raise BadInput("a daily list needs dates, and nothing says when the project begins; --from does")

@@ -123,9 +123,9 @@ def write(opened: ProjectFile, given: str | None, sheet: Sheet, resource: str | 
         raise BadInput(f"--daily writes a page of HTML, which --out names with {HTML}")
     known = feasible(opened, read_answer(given), Psmax(Clock(), opened.path))
     if is_daily:
-        from .daily import List
+        from .daily import DailyList
         must_be_like(sheet.out, BEGIN, "page of HTML")
-        put(List(opened, known.starts, resource).page(pathlib.Path(opened.path).stem), sheet.out)
+        put(DailyList(opened, known.starts, resource).page(pathlib.Path(opened.path).stem), sheet.out)
     elif suffix == icalendar.SUFFIX:
         must_be_like(sheet.out, icalendar.BEGIN, "calendar")
         put(icalendar.calendar_text(opened, known.starts, resource, datetime.datetime.now(datetime.UTC)), sheet.out)
