@@ -247,11 +247,15 @@ impl Engine<'_> {
 
     /// Whether other literals of the nogood, or the first one, imply one by lags.
     fn is_implied(&self, first: Literal, literal: Literal) -> bool {
-        let mut is_implied = self.implies(first, literal);
-        for by in &self.marks.nogood {
-            is_implied = is_implied || self.implies(*by, literal);
+        if literal.variable() >= self.instance.count() {
+            return false;
         }
-        is_implied
+        for by in &self.marks.nogood {
+            if self.implies(*by, literal) {
+                return true;
+            }
+        }
+        self.implies(first, literal)
     }
 
     /// Leaves out of the nogood what its other literals, or the first one, imply by lags.

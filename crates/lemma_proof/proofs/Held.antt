@@ -1,12 +1,16 @@
 -- The arcs of a block, as they are added.
 use Rattle.std.proofs.Common.{◌≡◌, sym, ap, ◌∙◌, subst, ℕ, Bool, true, false, not, is_some, arith, List, ◌++◌, ◌∷◌, [], length, append_assoc, Option, None}
-use Rattle.std.proofs.Common.{Some, MatchOption}
+use Rattle.std.proofs.Common.{Some, MatchOption, refl, ℤ, pos, ◌-ℤ◌, ◌≤ℤ◌}
+use Rattle.std.specs.List.{Contains}
 use Rattle.std.specs.Bool.{MatchBool}
 use Rattle.std.proofs.lemmas.Bool.{false≢true}
 use Rattle.std.proofs.lemmas.Int.{ints}
 use Rattle.network.specs.declared.parts.Lag.{Lag}
-use Rattle.network.specs.Walk.{IsMatrixOf, HasPositiveCycle, HasNoPositiveCycle}
+use Rattle.network.specs.Walk.{IsMatrixOf, IsWalk, weight, HasPositiveCycle, HasNoPositiveCycle}
+use Rattle.network.proofs.Walks.{IsWalk-append, weight-append}
+use Rattle.longest_path.specs.Insert.{arc_of}
 use Rattle.longest_path.specs.Saved.{Marked}
+use Rattle.lemma_proof.specs.Implied.{Implies}
 use Rattle.lemma_proof.specs.Block.{IsInserted, IsToldOf}
 use Rattle.lemma_proof.proofs.Implying.{IsPartOf}
 use Rattle.lemma_proof.proofs.Existing.{cycle_part, nil_right}
@@ -60,6 +64,14 @@ held_told own arcs x new e live is h told more now rows =
     let kept : AreKept (length x.rows) own arcs x.more None = rw is at (kept_live own arcs x live h) in
     let all : new.more ≡ arcs ++ e ∷ [] = more ∙ ap (λ (before : List Lag). before ++ e ∷ []) kept.0 in
     record { root = rw rows h.root; known = rw (rows, now) (told_known (length x.rows) own (arcs ++ e ∷ []) new.more new.is_infeasible all (told own h.root)) }
+
+-- an arc whose way back is implied closes a walk of positive weight
+pub cycle_back : (arcs : List Lag) (e : Lag) (back : ℤ) → Contains arcs e → (pos 1 -ℤ e.weight) ≤ℤ back
+    → Implies arcs (arc_of e.to e.from back) → HasPositiveCycle arcs
+cycle_back arcs e back there more i =
+    let closed : IsWalk arcs e.to (i.walk ++ e ∷ []) e.to = IsWalk-append arcs e.to e.from e.to i.walk (e ∷ []) i.goes (there, refl, refl) in
+    let weighs : back ≤ℤ weight i.walk = i.weighs in
+    (e.to, i.walk ++ e ∷ [], record { closed = closed; positive = omega (arith, ints, weight-append i.walk (e ∷ [])) })
 
 -- and where the matrix of all arcs is made
 pub held_made : (own arcs : List Lag) (x new : BenchOf) (e : Lag) → x.is_infeasible ≡ false → x.dense ≡ None

@@ -2,7 +2,7 @@
 
 ghost use Rattle.std.specs.Prelude.{◌≡◌, ◌<◌, ◌++◌, ◌∷◌, [], ℕ, List, None, Some, length, true, false, IsTrue, is_some, not, IfOk, IfSome, IsSome, OnOk, OnErr, MatchOption};
 ghost use Rattle.std.specs.Bool.{MatchBool};
-ghost use Rattle.std.specs.List.{All};
+ghost use Rattle.std.specs.List.{All, Contains};
 ghost use Rattle.network.specs.declared.parts.Lag.{Lag};
 ghost use Rattle.network.specs.Problem.{IsWithin, activity_count};
 ghost use Rattle.network.specs.declared.limits.TheConstants.{MAX_WALK_WEIGHT};
@@ -126,6 +126,27 @@ impl Bench {
         Ok(())
     }
 
+    /// Finds whether all arcs close a walk of positive weight, of which this one came last: over it and one more of those
+    /// beside the root's, as two orders of rivals do, or else by the matrix of all arcs.
+    fn look_back(&mut self, arc: Lag) -> Result<(), AllocError>
+        requires light { IsLight (length self.old.rows) arc }
+        requires beside { Contains self.old.more arc }
+        ensures rows { self.new.rows ≡ self.old.rows }
+        ensures made { OnOk result ((own : List Lag) → IsMatrixOf (length self.old.rows) own self.old.rows →
+            IsKnownOf (length self.old.rows) own self.old.more self.new.is_infeasible self.new.more self.new.dense) }
+    {
+        let back = Lag {
+            from: arc.to,
+            to: arc.from,
+            weight: 1 - arc.weight,
+        };
+        if self.block.implies_by_one(back) {
+            self.is_infeasible = true;
+            return Ok(());
+        }
+        self.make_dense()
+    }
+
     /// Adds an arc.
     pub(crate) fn add(&mut self, arc: Lag) -> Result<(), AllocError>
         requires live { self.old.is_infeasible ≡ false }
@@ -142,7 +163,7 @@ impl Bench {
         self.effort = self.effort.with_arc(arc);
         match self.block.add(arc)? {
             Some(is_infeasible) => self.is_infeasible = is_infeasible,
-            None => self.make_dense()?,
+            None => self.look_back(arc)?,
         }
         Ok(())
     }
