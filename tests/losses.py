@@ -3,8 +3,8 @@
 
 Hands each command of psmax, or with --proofs of psprove, a file that it reads and writes, or writes twice: for each
 option that reads with each that writes, by the same name, by a symbolic link and by a second name. The command has to
-be refused, and no file may have changed. Then a part of a record of psprove is there, and has to stay. And a record
-goes where a link leads, with the mode of the older one. The last line counts what was tried."""
+be refused, and no file may have changed. Then a part of a record or of an export of psprove is there, and has to
+stay. And both go where a link leads, with the mode of the older one. The last line counts what was tried."""
 import itertools
 import os
 import pathlib
@@ -152,6 +152,36 @@ def part_stays(text: bytes) -> Look:
     return look
 
 
+def cube_search(program: str, here: pathlib.Path) -> harness.Ended:
+    """A search of a cube that exports its lemmas."""
+    for name, text in (("project", PROJECT), ("path", TEXTS["--under"])):
+        (here / name).write_bytes(text)
+    words = ("--project", "project", "--under", "path", "--record", "record", "--export", "lemmas")
+    return harness.ended([program, "solve", *words], cwd=here)
+
+
+def part_of_export_stays(program: str, here: pathlib.Path) -> str | None:
+    """The call is refused before it searches."""
+    (here / "lemmas.part").write_bytes(OLD)
+    said = b"error: lemmas.part is there: a search left it, or writes it now\nhint: delete it\n"
+    if (ended := cube_search(program, here)) != (2, b"", said):
+        return f"ends with {ended}"
+    return None if sorted(shown(here)) == ["lemmas.part", "path", "project"] else "files have changed"
+
+
+def export_through_a_link(program: str, here: pathlib.Path) -> str | None:
+    """Lemmas go where a link leads, in place of the older ones, whose mode they keep."""
+    (here / "older").write_bytes(OLD)
+    (here / "older").chmod(0o640)
+    (here / "lemmas").symlink_to("older")
+    if (status := cube_search(program, here)[0]) not in (0, 3):
+        return f"ends with {status}"
+    if sorted(shown(here)) != ["lemmas", "older", "path", "project", "record"] or not (here / "lemmas").is_symlink():
+        return f"leaves {shown(here)}"
+    mode = (here / "older").stat().st_mode & 0o777
+    return None if mode == 0o640 and (here / "older").read_bytes() != OLD else f"the older lemmas, or mode {mode:o}"
+
+
 def second_search(program: str, here: pathlib.Path) -> str | None:
     """Of two searches with one record the second is refused, and the first goes on."""
     words = [program, "solve", "--record", "record", "--until", "end"]
@@ -209,6 +239,8 @@ def looks(is_psprove: bool) -> Iterator[tuple[str, Look]]:
                 yield f"cube: {one}, {other}, {is_there}", both_written(one, other, is_there)
     yield "a part stays", part_stays(PROJECT)
     yield "a part stays where there is no project", part_stays(b"x\n")
+    yield "a part of an export stays", part_of_export_stays
+    yield "an export through a link", export_through_a_link
     yield "two searches", second_search
     yield "through a link", through_a_link(True)
     yield "through a link to nothing", through_a_link(False)

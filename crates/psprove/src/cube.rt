@@ -5,8 +5,8 @@ use crate::failure::Failure;
 use crate::files::bytes_of;
 use crate::following::Heard;
 use crate::json_lines::cube_line;
+use crate::part_file::PartFile;
 use crate::program::Program;
-use crate::record_file::RecordFile;
 use crate::reports::{ReportForm, Reporter};
 use command_line::refuse_files;
 use cube_text::{CubeLemma, lemmas_of, path_of};
@@ -15,7 +15,6 @@ use network::{Lag, Project, Schedule};
 use session::{Cube, CubeResult, Limits, search_cube};
 use std::alloc::Global;
 use std::fs::{self, Files};
-use std::io::Write;
 use std::process::ExitCode;
 use std::rt::Runtime;
 use std::sync::{Arc, Mutex, Wait};
@@ -98,9 +97,8 @@ fn answer<'w, R: Runtime>(
     found: &CubeResult,
 ) -> Result<u8, Failure<'w>> {
     if let Some(name) = &call.export {
-        let file = fs::create(rt, name.as_str());
-        file.and_then(|mut file| file.write_all(found.lemmas.as_bytes()))
-            .map_err(|error| Failure::of_file(&error, name))?;
+        let written = PartFile::of(rt, alloc, name)?.write(rt, found.lemmas.as_bytes());
+        written.map_err(|error| Failure::of_file(&error, name))?;
     }
     let line = cube_line(alloc, found)?;
     if print!(rt; "{line}").is_err() {
@@ -110,7 +108,7 @@ fn answer<'w, R: Runtime>(
 }
 
 /// The names of the files of a call.
-fn names_of<'a>(call: &'a CubeCall, record: &'a RecordFile) -> FileNames<'a> {
+fn names_of<'a>(call: &'a CubeCall, record: &'a PartFile) -> FileNames<'a> {
     record.join(FileNames {
         second: call.start.as_deref(),
         second_option: "--start",
@@ -168,7 +166,7 @@ fn search<'w, R: Runtime + Wait>(
     rt: &'w R,
     alloc: Global,
     call: &'w CubeCall,
-    record: &RecordFile,
+    record: &PartFile,
     heard: &'w Mutex<Heard>,
 ) -> Result<(u8, R::File), Failure<'w>> {
     let project = project_of(rt, alloc, &call.project)?;
@@ -194,6 +192,25 @@ fn search<'w, R: Runtime + Wait>(
     }
 }
 
+/// Finds no part of the export: it would be written over.
+fn find_no_part<'w, R: Runtime>(
+    rt: &R,
+    alloc: Global,
+    call: &'w CubeCall,
+) -> Result<(), Failure<'w>> {
+    let Some(name) = &call.export else {
+        return Ok(());
+    };
+    let export = PartFile::of(rt, alloc, name)?;
+    let Some(part) = export.left(rt) else {
+        return Ok(());
+    };
+    let _ = eprintln!(rt;
+        "error: {part} is there: a search left it, or writes it now\nhint: delete it"
+    );
+    Err(Failure::Printed(ExitCode::from(2)))
+}
+
 /// Solves a cube. Its log takes its name once it is whole.
 pub(crate) fn solve_cube<'w, R: Runtime + Wait>(
     rt: &'w R,
@@ -201,11 +218,12 @@ pub(crate) fn solve_cube<'w, R: Runtime + Wait>(
     call: &'w CubeCall,
     heard: &'w Mutex<Heard>,
 ) -> Result<ExitCode, Failure<'w>> {
-    let record = RecordFile::of(rt, alloc, &call.record)?;
+    let record = PartFile::of(rt, alloc, &call.record)?;
     let names = names_of(call, &record);
     if let Err(fault) = Opener::new(alloc, rt).check(&names) {
         return Ok(refuse_files(rt, PROGRAM, &names, fault));
     }
+    find_no_part(rt, alloc, call)?;
     let (exit, file) = search(rt, alloc, call, &record, heard)?;
     Ok(record.settle(rt, Some(file), &Ended { exit, fault: None }))
 }

@@ -9,8 +9,8 @@ mod files;
 mod following;
 mod help;
 mod json_lines;
+mod part_file;
 mod program;
-mod record_file;
 mod reports;
 mod solve;
 

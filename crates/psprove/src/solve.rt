@@ -3,8 +3,8 @@
 use crate::PROGRAM;
 use crate::failure::Failure;
 use crate::following::Heard;
+use crate::part_file::PartFile;
 use crate::program::Program;
-use crate::record_file::RecordFile;
 use crate::reports::ReportForm;
 use command_line::{refuse_files, report};
 use devices::{Ended, FileNames, InputReader, Opener, OutputWriter};
@@ -42,7 +42,7 @@ pub(crate) struct SolveCall {
 /// The names of the files of a call; those of the cubes that it joins are these.
 fn names_of<'a>(
     call: &'a SolveCall,
-    record: Option<&'a RecordFile>,
+    record: Option<&'a PartFile>,
     cubes: &'a [String],
 ) -> FileNames<'a> {
     let names = FileNames {
@@ -96,7 +96,7 @@ pub(crate) fn solve<'w, R: Runtime + Threads + Wait + Sync>(
     heard: &'w Mutex<Heard>,
 ) -> Result<ExitCode, Failure<'w>> {
     let record = match &call.record {
-        Some(name) => Some(RecordFile::of(rt, alloc, name)?),
+        Some(name) => Some(PartFile::of(rt, alloc, name)?),
         None => None,
     };
     let mut program = Program::new(rt, alloc, call, heard)?;
