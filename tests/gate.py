@@ -139,7 +139,7 @@ def scripts(folder: pathlib.Path, with_tests: bool) -> Iterator[Script]:
     yield "devices of psprove", devices.verdicts, [psprove, "--proofs"]
     yield "long records that fail", long_records.verdicts, [psprove]
     yield "plan", planner_tests.verdicts, []
-    yield "kills and power cuts", interrupted.verdicts, [psprove]
+    yield "kills and power cuts", interrupted.verdicts, [psmax, psprove]
     yield "package", planner_tests.verdicts, [str(TOP / "python" / "tests")]
     yield "documents", documents.verdicts, [str(folder)]
 

@@ -1,0 +1,145 @@
+"""Runs of psmax and psprove that may be interrupted, and what is wrong with the files that they leave."""
+from collections.abc import Callable, Mapping
+from functools import partial
+from pathlib import Path
+from typing import NamedTuple
+
+import cubes
+import disks
+import harness
+import judges
+import networks
+from interrupted_run import Run
+
+OLD = b"an older file\n"
+PROJECT = networks.project(100, 1, 0).text()  # takes some thousand conflicts
+FEW, CONFLICTS = "300", "1000"
+SMALL = harness.seeded(24, 9)[1]  # whose record by psmax has 154,974 bytes
+PART = "record.part"
+
+
+class Task(NamedTuple):
+    """The words of a run, what is there before it, which of these files it writes, and which of those in place: it empties
+    such a file before it writes it, so that one which is interrupted is a beginning of the new one."""
+
+    program: str
+    words: list[str]
+    before: Mapping[str, bytes]
+    project: bytes = PROJECT
+    writes: tuple[str, ...] = ("record",)
+    in_place: tuple[str, ...] = ()
+
+
+class Record(Run):
+    """A run that writes a record, and perhaps lemmas. It reads all else that is there before it."""
+
+    def __init__(self, name: str, folder: Path, task: Task) -> None:
+        super().__init__(folder)
+        self.name, self.task, self.before = name, task, task.before
+        self.words, self.is_kept, self.is_cube = [task.program, *task.words], not task.in_place, "--under" in task.words
+        self.given = self.project = folder / "project"
+        self.project.write_bytes(task.project)
+        self.fill()
+        self.status = self.run()[0]
+        self.whole = {written: self.holds(written) or b"" for written in task.writes}  # where nothing interrupts it
+
+    def fault(self) -> str | None:
+        odd = {path.name for path in self.there.iterdir()} - {*self.before, PART}
+        if odd:
+            return f"{odd} lie there"
+        told = (self.fault_of(name, old) for name, old in self.before.items())
+        return next(filter(None, told), None) or self.fault_of_part()
+
+    def fault_of(self, name: str, old: bytes) -> str | None:
+        data = self.holds(name)
+        if data is None or data != old and name not in self.task.writes:
+            return f"{name} is lost" if data is None else f"{name} is read alone, and has changed"
+        if data == old or name in self.task.in_place and self.whole[name].startswith(data):
+            return None
+        return None if self.is_right(name, data, partial(self.is_whole, name)) else f"{name} is neither what it was nor whole"
+
+    def is_whole(self, name: str, data: bytes) -> bool:
+        """A record proves what it claims. Nobody judges the log of a cube and its lemmas, which come again."""
+        return data == self.whole[name] if self.is_cube else self.proves(data)
+
+    def proves(self, data: bytes, is_cut: bool = False) -> bool:
+        return judges.by_program(self.task.program, self.project, data, is_cut)[0] == 0
+
+    def fault_of_part(self) -> str | None:
+        part = self.holds(PART)
+        return None if part is None or self.is_right(PART, part, self.is_part) else f"{PART} is no beginning of a record"
+
+    def is_part(self, data: bytes) -> bool:
+        """That of a cube stands on lemmas of others, so it proves nothing alone."""
+        return self.whole["record"].startswith(data) if self.is_cube else self.proves(data, is_cut=True)
+
+    def goes_on(self) -> str | None:
+        if self.holds(PART) is not None:
+            fault = self.fault_of_second() or (None if self.is_cube else self.fault_of_resume())
+            (self.there / PART).unlink()
+            if fault is not None:
+                return fault
+        status, _, told = self.run()
+        return self.fault() if status == self.status else f"the same command ends with {status}: {told.decode()}"
+
+    def fault_of_second(self) -> str | None:
+        """The same command names what is left, and touches nothing."""
+        before = disks.contents(self.there)
+        status, out, told = self.run()
+        if (status, out) != (2, b"") or not told.startswith(f"error: {PART} is there".encode()):
+            return f"the same command ends with {status}: {told.decode()}"
+        return None if before == disks.contents(self.there) else "the same command has touched what is left"
+
+    def fault_of_resume(self) -> str | None:
+        """A search goes on from what is left."""
+        words = [self.task.program, "solve", "--resume", PART, "--conflicts", "0", "--record", self.folder / "resumed"]
+        status, _, told = harness.ended(words, self.task.project, cwd=self.there)
+        if status not in (0, 3):
+            return f"a search that goes on from what is left ends with {status}: {told.decode()}"
+        return None if self.proves((self.folder / "resumed").read_bytes()) else "its record is wrong"
+
+
+def solve(folder: Path, psmax: str, psprove: str) -> Task:
+    return Task(psprove, ["solve", "--conflicts", CONFLICTS, "--record", "record"], {"record": OLD})
+
+
+def resume(folder: Path, psmax: str, psprove: str) -> Task:
+    """The record that it goes on from is the one that it writes."""
+    harness.ended([psprove, "solve", "--conflicts", FEW, "--record", "before"], PROJECT, cwd=folder)
+    words = ["solve", "--resume", "record", "--conflicts", CONFLICTS, "--record", "record"]
+    return Task(psprove, words, {"record": (folder / "before").read_bytes()})
+
+
+def searched(folder: Path, psprove: str) -> dict[str, bytes]:
+    """The files of a project that was searched in cubes."""
+    tree = cubes.Tree(psprove, folder / "cubes", PROJECT)
+    for part in tree.search(cubes.Cube("", []), int(FEW))["pieces"]:
+        tree.search(cubes.Cube(part["name"], part["arcs"]), int(CONFLICTS))
+    (tree.folder / "tree").write_text("".join(tree.lines))
+    return {path.name: path.read_bytes() for path in tree.folder.iterdir()}
+
+
+def join(folder: Path, psmax: str, psprove: str) -> Task:
+    words = ["join", "--project", "project.sch", "--tree", "tree", "--record", "record"]
+    return Task(psprove, words, {**searched(folder, psprove), "record": OLD})
+
+
+def export(folder: Path, psmax: str, psprove: str) -> Task:
+    """The search of a cube, which takes lemmas, and gives others."""
+    words = ["solve", "--project", "project.sch", "--under", "path", "--import", "1.given", "--conflicts", CONFLICTS,
+             "--export", "lemmas", "--record", "record"]
+    before = {**searched(folder, psprove), "record": OLD, "lemmas": OLD}
+    return Task(psprove, words, before, writes=("record", "lemmas"), in_place=("lemmas",))
+
+
+def tree(folder: Path, psmax: str, psprove: str) -> Task:
+    return Task(psmax, ["solve", "--record", "record"], {"record": OLD}, SMALL, in_place=("record",))
+
+
+TASKS: dict[str, Callable[[Path, str, str], Task]] = {
+    "psprove solve": solve, "psprove solve --resume": resume, "psprove join": join, "psprove solve --export": export,
+    "psmax solve": tree}
+
+
+def run_of(folder: Path, name: str, psmax: str, psprove: str) -> Record:
+    return Record(name, folder, TASKS[name](folder, psmax, psprove))
