@@ -11,7 +11,7 @@ from unittest import mock
 from urllib.parse import urlsplit
 from urllib.request import url2pathname
 
-from .helpers import EXAMPLES, INPUTS, LONG, TELLS, InFolder, plan
+from .helpers import EXAMPLES, INPUTS, LONG, PSPROVE, TELLS, InFolder, plan
 from .watching import Watching, done
 
 # By hand: two jobs of 3 and 4 on one crane take 7.
@@ -21,9 +21,9 @@ CHANGED = (EXAMPLES / "hall-changed.csv").read_text()
 
 
 class Watches(InFolder):
-    def watching(self, text: str, *words: object, **more: str) -> Watching:
+    def watching(self, text: str, *words: object, psprove: str = PSPROVE) -> Watching:
         """A watch of a table, which ends with the test."""
-        made = Watching(self.file("p.csv", text), *words, **more)
+        made = Watching(self.file("p.csv", text), *words, psprove=psprove)
         self.addCleanup(made.__exit__, None, None, None)
         return made
 
@@ -181,14 +181,16 @@ class Orders(Watches):
         self.assertEqual((state["version"], state["busy"]), (version, False))
 
     def test_keep(self) -> None:
-        """What is kept is a plan with its proof, beside the table, and nothing takes its place."""
+        """What is kept is a plan with its proof, beside the table and with its mode, and nothing takes its place."""
         watch = self.watching(TWO)
+        watch.table.chmod(0o600)
         watch.until(done("optimal 7"))
         for _ in range(3):
             status, text = watch.order("keep")
             self.assertEqual((status, text[:6]), (200, "Kept: "))
         names = self.names()
         self.assertEqual(len(names), 13)
+        self.assertEqual({stat.S_IMODE((self.folder / name).stat().st_mode) for name in names}, {0o600})
         stems = {name.rpartition(".")[0].removesuffix("-table") for name in names} - {"p"}
         self.assertEqual(len(stems), 3)
         for stem in stems:

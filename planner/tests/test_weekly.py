@@ -31,6 +31,7 @@ class Weekly(InFolder):
         for text, was, now, ends in EDITS:
             self.answer.unlink(missing_ok=True)
             self.solved(text)
+            self.answer.chmod(0o600)
             old, before = self.answer.read_bytes(), len(self.kept())
             ran = self.solved(text.replace(was, now))
             self.assertEqual(ran.stdout, f"optimal, ends {ends} (11 days)\n")
@@ -42,6 +43,7 @@ class Weekly(InFolder):
             self.assertIn(old, [path.read_bytes() for path in self.kept()])
             self.assertIn(f"plan.csv as it was is kept as {self.folder}/plan-", ran.stderr)
             kept = next(path for path in self.kept() if path.read_bytes() == old)
+            self.assertEqual(kept.stat().st_mode & 0o777, 0o600)
             self.assertIn("2 later", plan("compare", self.table, kept, self.answer).stdout)
 
     def test_rows_that_come_and_go(self) -> None:

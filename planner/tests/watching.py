@@ -3,6 +3,7 @@ import http.client
 import json
 import pathlib
 import signal
+import subprocess
 import time
 from collections.abc import Callable
 from types import TracebackType
@@ -12,15 +13,16 @@ from urllib.parse import urlsplit
 from .helpers import PSPROVE, started
 
 State = dict[str, Any]
+Begin = Callable[..., subprocess.Popen[str]]  # starts the command by its words
 SECONDS = 60.0  # that something may take on a machine that does other work too
 
 
 class Watching:
     """The command as a process of its own, which Ctrl-C ends."""
 
-    def __init__(self, table: pathlib.Path, *words: object, psprove: str = PSPROVE) -> None:
+    def __init__(self, table: pathlib.Path, *words: object, psprove: str = PSPROVE, begin: Begin = started) -> None:
         self.table = table
-        self.child = started("watch", table, "--jobs", "1", *words, psprove=psprove)
+        self.child = begin("watch", table, "--jobs", "1", *words, psprove=psprove)
         assert self.child.stdout is not None
         self.address = self.child.stdout.readline().strip()
         self.version = 0

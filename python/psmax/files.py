@@ -137,13 +137,14 @@ def write_whole(path: str, data: bytes) -> None:
 
 
 @contextmanager
-def beside(target: pathlib.Path, data: bytes) -> Iterator[pathlib.Path]:
-    """A file in the same folder, which the disk has. It is deleted, unless it gets another name."""
+def beside(target: pathlib.Path, data: bytes, like: pathlib.Path | None = None) -> Iterator[pathlib.Path]:
+    """A file in the same folder, which the disk has, with the mode of the one that it replaces or is like. It is deleted,
+    unless it gets another name."""
     with tempfile.NamedTemporaryFile(dir=target.parent, prefix=".plan-", delete=False) as file:
         made = pathlib.Path(file.name)
         try:
             file.write(data)
-            hand_on_mode(target, file.fileno())
+            hand_on_mode(like or target, file.fileno())
             file.flush()
             os.fsync(file.fileno())
             yield made
@@ -192,12 +193,13 @@ def keep_names(folder: pathlib.Path) -> None:
         os.close(place)
 
 
-def write_new(files: Mapping[str, bytes]) -> bool:
-    """Writes each file whole where none of them is there, and otherwise nothing. Whether it did."""
+def write_new(files: Mapping[str, bytes], like: str | None = None) -> bool:
+    """Writes each file whole where none of them is there, and otherwise nothing. Whether it did. They get the mode of the file
+    that they are like, so that nobody reads there what he may not read in that."""
     made: list[str] = []
     try:
         for path, data in files.items():
-            with beside(pathlib.Path(path), data) as whole:
+            with beside(pathlib.Path(path), data, pathlib.Path(like) if like is not None else None) as whole:
                 put_new(whole, path)
             made.append(path)
         for folder in {os.path.dirname(path) or "." for path in files}:

@@ -70,7 +70,7 @@ class AnswerFile:
         stem, suffix = os.path.splitext(self.path)
         time = f"{datetime.datetime.fromtimestamp(os.stat(self.path).st_mtime):%Y-%m-%d-%H%M%S}"
         names = (f"{stem}-{time}{more}{suffix}" for more in chain([""], (f"-{again}" for again in count(1))))
-        name = next(name for name in names if write_new({name: self.written or b""}))
+        name = next(name for name in names if write_new({name: self.written or b""}, self.path))
         tell(clock, f"{self.path} as it was is kept as {name}")
         self.before = None
 
