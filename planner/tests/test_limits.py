@@ -1,46 +1,107 @@
 """Texts that are made to take long: each has its fault soon, in little room."""
+import http.client
 import os
+import resource
 import subprocess
 import sys
+import unittest
+from urllib.parse import urlsplit
 
 from psmax.dates import is_dated
+from psmax.errors import BadInput, Failed
 from psmax.files import without_blank_rows
+from psmax.process_limits import limited
 
+from . import hostile_texts
 from .helpers import CALLED, TOP, InFolder, plan
+from .hostile_texts import HEADS, LONG, XER, XML, filled
+from .test_spreadsheets import book, is_here, saved
+from .watching import Watching, done
 
-LONG = 16_000_000  # bytes
 SECONDS, MEGABYTES = 5.0, 200
-HEADS = "activity,days"
 
-# Looks at all texts in turn, and tells the seconds of a processor that each took, and the most memory of all.
+# Looks at all texts in turn, and tells the seconds of a processor that each took, with those of what it called, the most memory
+# of all, and faults that say nothing.
 LOOK = """
-import re, sys, time
+import contextlib, io, os, re, resource, sys
 from psmax.planner.main import main
-for path in sys.argv[1:]:
-    begun = time.process_time()
-    assert main(["check", path]) == 2, path
-    print(path.rpartition("/")[2], round(time.process_time() - begun, 2))
-print("MB", int(re.search(r"VmHWM:\\s*(\\d+)", open("/proc/self/status").read())[1]) // 1024)
+def seconds():
+    return sum(os.times()[:4])
+for path in map(str.strip, sys.stdin):
+    begun, told = seconds(), io.StringIO()
+    with contextlib.redirect_stderr(told), contextlib.redirect_stdout(io.StringIO()):
+        status = main(["check", path])
+    is_clear = status == 2 and told.getvalue().startswith("plan: ") and "Traceback" not in told.getvalue()
+    own = int(re.search(r"VmHWM:\\s*(\\d+)", open("/proc/self/status").read())[1])
+    most = max(own, resource.getrusage(resource.RUSAGE_CHILDREN).ru_maxrss) // 1024
+    print(round(seconds() - begun, 2), most, is_clear, told.getvalue()[:200].replace("\\n", " "), flush=True)
 """
 
 
-def filled(text: str) -> str:
-    return (text * (LONG // len(text) + 1))[:LONG]
-
-
 class Hostile(InFolder):
-    def test_seconds_and_memory(self) -> None:
-        """Blank rows, cells without end, what looks like JSON, titles, and XML of as many elements as it may have and more."""
-        texts = {"newlines.csv": filled("\n"), "commas.csv": filled(","), "braces.csv": filled("{}"), "deep.json": filled("["),
-                 "titles.csv": "title,x\n" * 100_000, "names.csv": f"{HEADS}\n" + f"{'a' * 32_000},1\n" * 130,
-                 "starts": "0 0\n" * 1_000_000, "small.xml": f"<Project>{filled('<a/>')}"}
-        paths = [self.file(name, text) for name, text in texts.items()]
-        ran = subprocess.run([sys.executable, "-c", LOOK, *map(str, paths)], capture_output=True, text=True,
-                             env={**os.environ, **CALLED, "PYTHONPATH": str(TOP / "python")})
-        told = {name: float(number) for name, number in (line.split() for line in ran.stdout.splitlines())}
-        self.assertEqual([*told], [*texts, "MB"], ran.stderr)
-        self.assertLess(told.pop("MB"), MEGABYTES)
-        self.assertLess(max(told.values()), SECONDS, told)
+    def look(self, texts: hostile_texts.Texts) -> None:
+        """Hands each text to `plan check` in one process, which reads the next name once it has looked at one."""
+        env = {**os.environ, **CALLED, "PYTHONPATH": str(TOP / "python")}
+        with subprocess.Popen([sys.executable, "-c", LOOK], text=True, env=env, stdin=subprocess.PIPE,
+                              stdout=subprocess.PIPE) as looks:
+            assert looks.stdin is not None and looks.stdout is not None
+            for name, text in texts:
+                path = self.file(name, text)
+                print(path, file=looks.stdin, flush=True)
+                seconds, megabytes, is_clear, *told = looks.stdout.readline().split(" ", 3)
+                path.unlink()
+                with self.subTest(name):
+                    self.assertEqual(is_clear, "True", told)
+                    self.assertLess(float(seconds), SECONDS, told)
+                    self.assertLess(int(megabytes), MEGABYTES, told)
+
+    def test_long(self) -> None:
+        self.look(hostile_texts.long())
+
+    def test_tables(self) -> None:
+        self.look(hostile_texts.tables())
+
+    def test_formats(self) -> None:
+        for texts in (hostile_texts.objects, hostile_texts.elements, hostile_texts.exports):
+            self.look(texts())
+
+    @unittest.skipUnless(is_here(), "python3-openpyxl isn't here")
+    def test_spreadsheets(self) -> None:
+        self.look(hostile_texts.spreadsheets(saved(book())))
+
+    def test_watch(self) -> None:
+        """A body is refused by its length, before it is read, and the page goes on."""
+        watch = Watching(self.file("p.csv", f"{HEADS}\na,3\n"))
+        self.addCleanup(watch.__exit__, None, None, None)
+        watch.until(done("optimal 3"))
+        place = urlsplit(watch.address)
+        before = cost(watch.child.pid)
+        for piece in hostile_texts.PIECES.values():
+            for name in ("whatif", "keep", "back"):
+                self.assertEqual(self.posted(place.netloc, f"{place.path}{name}", filled(piece)), 403)
+        self.assertLess(cost(watch.child.pid) - before, SECONDS)
+        with open(f"/proc/{watch.child.pid}/status") as status:
+            most = next(int(line.split()[1]) // 1024 for line in status if line.startswith("VmHWM:"))
+        self.assertLess(most, MEGABYTES)
+        self.assertEqual(watch.ask("GET", place.path)[0], 200)
+
+    def posted(self, netloc: str, path: str, body: str) -> int:
+        """The status of the answer, which may come before all is sent."""
+        connection = http.client.HTTPConnection(netloc, timeout=60)
+        connection.putrequest("POST", path, skip_host=True)
+        for head, text in (("Host", netloc), ("Origin", f"http://{netloc}"), ("Content-Length", f"{len(body)}")):
+            connection.putheader(head, text)
+        connection.endheaders()
+        try:
+            connection.send(body.encode())
+        except (BrokenPipeError, ConnectionResetError):
+            pass
+        try:
+            return connection.getresponse().status
+        except ConnectionResetError:  # with the answer still unread
+            return 403
+        finally:
+            connection.close()
 
     def test_faults(self) -> None:
         """Each limit has one of its own; what is just within has none."""
@@ -49,11 +110,23 @@ class Hostile(InFolder):
                            (f"{HEADS}\n" + "x\n" * 100_001, "at most 100,000 rows, and this one 100,002"),
                            (f"{HEADS}\n" + "x\n" * 10_001, "at most 10,000 rows, and this one 10,001"),
                            (f"{HEADS}\n" + "x," * 250_000, "at most 250,000 cells, and this one 250,002"),
+                           (f"{HEADS}\n" + "x," * 2_001, "row 2: a table has at most 2,000 columns, and this one 2,002"),
                            (f"{HEADS}\n" + row.format("a", "b" * 32_768), "row 2, column C: a cell has at most 32,767 signs")):
             with self.subTest(told):
                 self.refused(plan("check", self.file("t.csv", text)), 2, told)
         ran = plan("check", self.file("t.csv", f"{HEADS},notes\n" + row.format("a", "b" * 32_767)))
         self.assertEqual(ran.returncode, 0, ran.stderr)
+
+    def test_faults_of_formats(self) -> None:
+        texts: dict[str, tuple[str | bytes, str]] = {
+            "a.xml": (f"{XML}<a {'x' * 2_000_000}='1'/></Project>", "a tag of more than 1,048,576 bytes"),
+            "b.xml": (f"{XML}{'x' * 1_048_577}</Project>", "a text of more than 1,048,576 signs"),
+            "a.xer": (f"{XER}%T\tTASK\n%F" + "\ta" * 1_001 + "\n%E\n", "line 6: a table has at most 1,000 columns"),
+            "b.xer": (f"{XER}%T\tTASK\n%F\ta\n" + "%R\t1\n" * 500_001 + "%E\n", "at most 500,000 cells"),
+            "a.mpp": (b"\xd0\xcf\x11\xe0\xa1\xb1\x1a\xe1", "a file of Microsoft Project (.mpp) or of an old Excel (.xls)")}
+        for name, (text, told) in texts.items():
+            with self.subTest(name):
+                self.refused(plan("check", self.file(name, text)), 2, told)
 
     def test_a_million_blank_rows(self) -> None:
         """As a spreadsheet may write them: they are no rows."""
@@ -67,3 +140,30 @@ class Hostile(InFolder):
         """A cell of any length is no date, and is known at once not to be one."""
         self.assertFalse(is_dated("a" * 32_000))
         self.assertTrue(is_dated("  Mon 2.3.2026  "))
+
+
+class Limited(unittest.TestCase):
+    def test_limits(self) -> None:
+        """What is done in a copy of this process ends with its text, its own fault, or that of a limit."""
+        def fail(fault: Exception) -> str:
+            raise fault
+
+        def spin() -> str:
+            while True:
+                pass
+
+        self.assertEqual(limited("x", lambda: "text\n\u00e9"), "text\n\u00e9")
+        for work, kind, told in ((lambda: fail(BadInput("a", "b")), BadInput, "a; b"), (lambda: fail(Failed("c")), Failed, "c"),
+                                 (lambda: fail(KeyError("d")), RuntimeError, "d"),
+                                 (lambda: "x" * LONG * 16, BadInput, "x: it takes more than 128 MB of memory to read"),
+                                 (spin, BadInput, "x: it takes more than 4 seconds to read")):
+            with self.subTest(told), self.assertRaises(kind) as raised:
+                limited("x", work)
+            self.assertEqual(str(raised.exception), told)
+        self.assertEqual(resource.getrlimit(resource.RLIMIT_CPU)[0], resource.RLIM_INFINITY)
+
+
+def cost(pid: int) -> float:
+    """The seconds of a processor that a process has taken by now."""
+    with open(f"/proc/{pid}/stat") as file:
+        return sum(map(int, file.read().rpartition(") ")[2].split()[11:13])) / os.sysconf("SC_CLK_TCK")

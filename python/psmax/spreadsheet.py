@@ -5,6 +5,7 @@ import io
 import re
 import zipfile
 from collections.abc import Iterator
+from contextlib import contextmanager
 from typing import TYPE_CHECKING, Any, NamedTuple
 
 from .date_style import decimal_sign
@@ -12,13 +13,14 @@ from .errors import BadInput, Failed
 from .extras import extra
 from .files import LARGEST
 from .letters import short
+from .process_limits import limited
 
 if TYPE_CHECKING:
     from types import ModuleType
 
 SUFFIX = ".xlsx"
 MOST_UNPACKED = 64 << 20  # bytes of all parts
-MOST_ROWS, MOST_CELLS = 100_000, 250_000  # as of other tables
+MOST_ROWS, MOST_CELLS = 100_000, 100_000  # of a sheet; openpyxl reads so many cells in two seconds
 MINUTE = datetime.timedelta(minutes=1)
 DAY_0 = datetime.datetime(1899, 12, 31)
 HOURS = "[h"  # how the format of a length begins, such as [h]:mm
@@ -40,7 +42,7 @@ def workbook(data: bytes, called: str, **options: bool) -> Any:
     """A file that is none, or that has much in little room, is a fault."""
     if len(data) > LARGEST:
         raise BadInput(f"{called}: too long: it has more than {LARGEST:,} bytes")
-    try:
+    with readable(called):
         with zipfile.ZipFile(io.BytesIO(data)) as parts:
             size = sum(part.file_size for part in parts.infolist())
             if "mimetype" in parts.namelist():
@@ -48,9 +50,16 @@ def workbook(data: bytes, called: str, **options: bool) -> Any:
         if size > MOST_UNPACKED:
             raise BadInput(f"{called}: too long: unpacked it has more than {MOST_UNPACKED:,} bytes")
         return openpyxl(called).load_workbook(io.BytesIO(data), **options)
-    except (BadInput, Failed):
+
+
+@contextmanager
+def readable(called: str) -> Iterator[None]:
+    """What is damaged in a file gives exceptions of many kinds."""
+    try:
+        yield
+    except (BadInput, Failed, MemoryError):
         raise
-    except Exception as fault:  # of many kinds, by what is damaged
+    except Exception as fault:
         raise BadInput(f"{called}: this is a spreadsheet file, and it can't be read: {short(repr(fault))}") from None
 
 
@@ -66,8 +75,15 @@ def sheet_of(book: Any, name: str | None, called: str) -> Any:
 
 
 def as_csv(data: bytes, called: str, name: str | None = None) -> str:
-    """The rows stand where they stand in the sheet."""
-    rows = [[*row] for row in cells_of(data, called, name)]
+    """The rows stand where they stand in the sheet. No limit on the bytes says how long openpyxl takes, so it has limits of its
+    own."""
+    openpyxl(called)
+    return limited(called, lambda: csv_of(data, called, name))
+
+
+def csv_of(data: bytes, called: str, name: str | None) -> str:
+    with readable(called):
+        rows = [[*row] for row in cells_of(data, called, name)]
     texts = [one for row in rows for one in row if isinstance(one, str)]
     comma = decimal_sign(texts) == ","
     text = io.StringIO()
@@ -83,28 +99,31 @@ def without_blank(rows: list[list[object]]) -> list[list[object]]:
 
 def cells_of(data: bytes, called: str, name: str | None) -> Iterator[list[object]]:
     """The text of each cell, or its number. A formula is its value, which the spreadsheet has left in the file."""
-    values, formulas = (sheet_of(workbook(data, called, read_only=True, data_only=is_value), name, called)
-                        for is_value in (True, False))
-    values.reset_dimensions()
-    formulas.reset_dimensions()
+    sheet = sheet_of(workbook(data, called, read_only=True, data_only=True), name, called)
+    sheet.reset_dimensions()
     count, faults = 0, list[str]()
-    for number, (row, told) in enumerate(zip(values.iter_rows(), formulas.iter_rows()), 1):
+    for number, row in enumerate(sheet.iter_rows(), 1):
         count += len(row)
         if number > MOST_ROWS or count > MOST_CELLS:
             raise BadInput(f"{called}: a table has at most {MOST_ROWS:,} rows and {MOST_CELLS:,} cells")
-        faults += [fault for one, formula in zip(row, told) for fault in why_not(one, formula, called)]
+        faults += [f"{called}: cell {one.coordinate}: {short(str(one.value))}" for one in row if one.data_type == "e"]
         yield [shown(one) for one in row]
+    faults += [f"{called}: cell {one}: a formula without its value; open and save the file in a spreadsheet"
+               for one in unvalued(data, sheet._worksheet_path)]
     if faults:
         raise BadInput(*faults)
 
 
-def why_not(cell: Any, formula: Any, called: str) -> list[str]:
-    if cell.data_type == "e":
-        return [f"{called}: cell {cell.coordinate}: {short(str(cell.value))}"]
-    if formula.data_type == "f" and cell.value is None and cell.data_type in ("n", "f"):
-        return [f"{called}: cell {formula.coordinate}: a formula without its value; open and save the file in a "
-                "spreadsheet"]
-    return []
+def unvalued(data: bytes, path: str) -> Iterator[str]:
+    """The cells of a sheet whose formulas have no value. Only the file says so: openpyxl shows the one or the other."""
+    from xml.etree.ElementTree import iterparse
+    with zipfile.ZipFile(io.BytesIO(data)) as parts, parts.open(path) as file:
+        for _, one in iterparse(file):
+            kind = one.tag.rpartition("}")[2]
+            if kind == "c" and one.find("{*}f") is not None and one.get("t", "n") == "n" and not one.findtext("{*}v"):
+                yield one.get("r", "")
+            if kind == "row":
+                one.clear()
 
 
 def shown(cell: Any) -> object:

@@ -10,6 +10,8 @@ from ..letters import composed, short
 from ..model import Parts
 from . import job_shop, json_text, mspdi_sign, rcp, sch, sm, taillard, xer_sign
 
+COMPOUND = b"\xd0\xcf\x11\xe0\xa1\xb1\x1a\xe1"  # how older files of Microsoft begin
+
 
 @dataclass(frozen=True)
 class Format:
@@ -85,6 +87,8 @@ def read(data: bytes, project: Parts, called: str, name: str | None = None) -> F
 def must_be_readable(called: str, data: bytes) -> None:
     """A fault where a text is too long: psmax's own and those of planning tools may have so many bytes as psmax reads,
     others fewer."""
+    if data.startswith(COMPOUND):
+        raise BadInput(f"{called}: a file of Microsoft Project (.mpp) or of an old Excel (.xls); save it as XML or as .xlsx")
     begin = decoded(data[:10_000])
     if not any(one.is_like(begin) for one in (sch, mspdi_sign, xer_sign)):
         must_be_short(called, data)

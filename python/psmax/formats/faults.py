@@ -16,8 +16,9 @@ class Gathering:
         try:
             yield
         except BadInput as fault:
-            self.faults += [told for told in map(str, fault.args) if told not in self.faults]
+            self.faults += map(str, fault.args)
 
     def tell(self) -> None:
+        """Each once."""
         if self.faults:
-            raise BadInput(*at_most(self.faults))
+            raise BadInput(*at_most([*dict.fromkeys(self.faults)]))

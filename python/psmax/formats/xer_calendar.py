@@ -17,7 +17,8 @@ HOURS = re.compile(r"(\d\d?):(\d\d)")
 ZERO = datetime.date(1899, 12, 30)
 LAST_DATE = 110_000  # in the year 2201
 SUNDAY, WEEK = 1, 7
-DEEPEST = 10  # lists in lists; there are four
+DEEPEST = 10  # lists in lists, of which there are four, and calendars that one is based on
+MOST_SIGNS = 2_000_000  # of the calendars that are used; one that another is based on counts again
 Spans = tuple[str, ...]  # hours of work, such as 08:00-12:00
 
 
@@ -76,6 +77,9 @@ def base_first(calendars: Mapping[str, Row], uid: str) -> list[Row]:
     """A calendar behind the one that it is based on, and so on."""
     found: list[str] = []
     while uid in calendars and uid not in found:
+        if len(found) > DEEPEST:
+            name = short(cell(calendars[found[0]], "clndr_name"))
+            raise BadInput(f"calendar '{name}' is based on more than {DEEPEST} others")
         found.append(uid)
         uid = cell(calendars[uid], "base_clndr_id")
     return [calendars[one] for one in reversed(found)]

@@ -14,7 +14,7 @@ from ..project import MOST_ACTIVITIES
 from ..work_time import WorkTime
 from .faults import Gathering
 from .mspdi import calendar_of
-from .xer_calendar import Hours, hours_of
+from .xer_calendar import MOST_SIGNS, Hours, base_first, hours_of
 from .xer_tables import Row, cell, minutes, moment
 
 ENDS = {"PR_FS": (True, False), "PR_SS": (False, False), "PR_FF": (True, True), "PR_SF": (False, True)}
@@ -40,6 +40,7 @@ class Link:
 @dataclass
 class Document(Gathering):
     tables: dict[str, list[Row]]
+    signs: int = 0  # of the calendars that were read
 
     def rows(self, name: str) -> list[Row]:
         """Those of the project, where the table has a column for that."""
@@ -174,6 +175,9 @@ class Document(Gathering):
     def hours(self, uid: str) -> Hours:
         """Those of a calendar."""
         if uid not in self.known_hours:
+            self.signs += sum(len(cell(row, "clndr_data")) for row in base_first(self.calendars, uid))
+            if self.signs > MOST_SIGNS:
+                raise BadInput(f"the calendars that are used have more than {MOST_SIGNS:,} signs")
             self.known_hours[uid] = hours_of(self.calendars, uid, self.first.date())
         return self.known_hours[uid]
 

@@ -32,7 +32,8 @@ class Needs:
     def fill(self, project: Parts) -> None:
         """Adds the resources that something needs, with their absences."""
         wanted, known = self.wanted(), self.resources
-        used = [uid for uid in known if any(uid == one for _, one, _ in wanted)]
+        needed = {resource for _, resource, _ in wanted}
+        used = [uid for uid in known if uid in needed]
         if len(used) > MOST_RESOURCES:
             raise BadInput(f"{len(used)} resources, and a project has at most {MOST_RESOURCES}")
         there = {uid: self.there(uid, known[uid]) for uid in used}
@@ -63,8 +64,9 @@ class Needs:
                 with document.kept():
                     units = self.units(task, resource, row)
                     found += [(task, resource, units)] if units else []
+        needed = {resource for _, resource, _ in found}
         for task, resource in spanning:
-            if any(resource == one for _, one, _ in found):
+            if resource in needed:
                 document.faults.append(f"{called(document.spanning[task])}: it needs {named(known[resource])} as long "
                                        "as others take, and activities here have a duration of their own")
         return found

@@ -2,6 +2,7 @@
 behind %F, or a row's cells behind %R, with tabs between; %E ends the file."""
 import datetime
 import re
+from collections.abc import Iterator
 from fractions import Fraction
 
 from ..errors import BadInput
@@ -13,6 +14,7 @@ HEAD, TABLE, COLUMNS, CELLS, LAST = "ERMHDR", "%T", "%F", "%R", "%E"
 READ = {"CALENDAR", "PROJECT", "PROJWBS", "RSRC", "RSRCRATE", "SCHEDOPTIONS", "TASK", "TASKPRED", "TASKRSRC"}
 NUMBER = re.compile(r"-?(\d{1,9}([.,]\d{0,12})?|[.,]\d{1,12})")
 FIRST_YEAR, LAST_YEAR = 1900, 2200  # of dates
+MOST_COLUMNS, MOST_CELLS = 1_000, 500_000  # of a table, and of all tables that are read
 HOUR = 60
 NEAR = Fraction(1, 100)  # of a minute, since hours have six digits behind the point
 
@@ -20,9 +22,13 @@ NEAR = Fraction(1, 100)  # of a minute, since hours have six digits behind the p
 def read_tables(text: str) -> dict[str, list[Row]]:
     """The rows of each table that is read."""
     found: dict[str, list[Row]] = {}
-    name, columns = "", list[str]()
-    for number, line in enumerate(text.split("\n"), 1):
-        mark, *cells = line.removesuffix("\r").split("\t")
+    name, columns, count = "", list[str](), 0
+    for number, line in enumerate(lines_of(text), 1):
+        mark, *cells = line.removesuffix("\r").split("\t", MOST_COLUMNS + 1)
+        count += len(cells) if name in READ else 0
+        if len(cells) > MOST_COLUMNS or count > MOST_CELLS:
+            raise BadInput(f"line {number}: a table has at most {MOST_COLUMNS:,} columns, and what is read of a file at most "
+                           f"{MOST_CELLS:,} cells")
         if mark == LAST:
             return found
         if mark == TABLE:
@@ -34,6 +40,11 @@ def read_tables(text: str) -> dict[str, list[Row]]:
         elif name in READ and line.strip():
             raise BadInput(f"line {number}: neither a row of {name} nor a table: '{short(line)}'")
     raise BadInput("the file has no %E at its end, so it was cut off")
+
+
+def lines_of(text: str) -> Iterator[str]:
+    """The lines one after another, since a long text may have millions."""
+    return (found[1] for found in re.finditer("([^\n]*)(?:\n|$)", text))
 
 
 def row_of(line: int, name: str, columns: list[str], cells: list[str]) -> Row:

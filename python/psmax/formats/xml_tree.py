@@ -5,7 +5,8 @@ from xml.parsers import expat
 from ..errors import BadInput
 from ..letters import short
 
-DEEPEST, MOST = 64, 500_000  # levels and elements
+DEEPEST, MOST, MOST_NAMES = 64, 500_000, 10_000  # levels, elements, and their names with those of attributes
+PIECE, LONGEST = 1 << 16, 1 << 20  # bytes that are read at once, and of a tag with its attributes or of a text
 HEAD = '<?xml version="1.0" encoding="UTF-8" standalone="yes"?>\n'
 
 
@@ -14,17 +15,25 @@ class Limited(TreeBuilder):
 
     def __init__(self) -> None:
         super().__init__()
-        self.depth = self.count = 0
+        self.depth = self.count = self.length = 0
+        self.names: set[str] = set()
 
     def begin(self, tag: str, attributes: dict[str, str]) -> None:
-        self.depth, self.count = self.depth + 1, self.count + 1
-        if self.depth > DEEPEST or self.count > MOST:
-            raise BadInput(f"the XML has more than {DEEPEST} levels or {MOST:,} elements")
+        self.depth, self.count, self.length = self.depth + 1, self.count + 1, 0
+        self.names.update((tag, *attributes))
+        if self.depth > DEEPEST or self.count > MOST or len(self.names) > MOST_NAMES:
+            raise BadInput(f"the XML has more than {DEEPEST} levels, {MOST:,} elements or {MOST_NAMES:,} names of elements")
         self.start(tag, attributes)
 
     def finish(self, tag: str) -> None:
-        self.depth -= 1
+        self.depth, self.length = self.depth - 1, 0
         self.end(tag)
+
+    def add(self, text: str) -> None:
+        self.length += len(text)
+        if self.length > LONGEST:
+            raise BadInput(f"the XML has a text of more than {LONGEST:,} signs")
+        self.data(text)
 
 
 def refused(*_: object) -> None:
@@ -36,13 +45,22 @@ def parsed(text: str) -> Element:
     parser.buffer_text = True
     parser.StartDoctypeDeclHandler = parser.EntityDeclHandler = refused
     parser.StartElementHandler, parser.EndElementHandler = builder.begin, builder.finish
-    parser.CharacterDataHandler = builder.data
+    parser.CharacterDataHandler = builder.add
     try:
-        parser.Parse(text.encode("utf-8", "replace"), True)
+        feed(parser, text.encode("utf-8", "replace"))
     except expat.ExpatError as fault:
         told = expat.errors.messages.get(fault.code, f"{fault}")
         raise BadInput(f"line {fault.lineno}, column {fault.offset + 1}: no XML: {short(told)}") from None
     return builder.close()
+
+
+def feed(parser: "expat.XMLParserType", data: bytes) -> None:
+    """Piece by piece, so that a tag is too long before all of its attributes are there."""
+    for place in range(0, len(data), PIECE):
+        parser.Parse(data[place : place + PIECE], False)
+        if place + PIECE - parser.CurrentByteIndex > LONGEST:
+            raise BadInput(f"the XML has a tag of more than {LONGEST:,} bytes")
+    parser.Parse(b"", True)
 
 
 def written(root: Element) -> str:

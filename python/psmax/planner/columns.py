@@ -179,8 +179,8 @@ def why_no_resource(columns: Columns, head: str) -> str:
         hours_of(head)
     except ValueError as fault:
         return f"{fault}"
-    if len(columns.resources) == MOST_RESOURCES:
-        return f"a project has at most {MOST_RESOURCES} resources"
+    if len(columns.resources) >= MOST_RESOURCES:  # told once
+        return f"a project has at most {MOST_RESOURCES} resources" if len(columns.resources) == MOST_RESOURCES else ""
     if len(units) > 9 or int(units) > MOST_UNITS:
         return f"a capacity is at most {MOST_UNITS:,}"
     if name in [resource(columns.heads[other])[0] for other in columns.resources]:

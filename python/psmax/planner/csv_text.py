@@ -13,7 +13,8 @@ from ..letters import composed
 SEPARATORS = {"comma": ",", "semicolon": ";", "tab": "\t"}
 SEP_LINE = re.compile(r'"?sep=(.)"?[ ,;\t]*\r?\n', re.I)  # what a spreadsheet puts first to tell the separator
 MOST_ROWS, MOST_CELLS, MOST_SIGNS = 100_000, 250_000, 32_767  # of a table; of a cell, as in spreadsheets
-MOST_TITLES = 40  # rows above the columns
+MOST_COLUMNS = 2_000
+MOST_TITLES, LONGEST = 40, 200_000  # rows above the columns, and signs of such a row that are looked at
 FORCED = re.compile(r'="(?:[^"]|"")*"')
 ODD = re.compile(r"[-=+@\t\r]|[^\w\s]*\d|[^\W\d_]+[\s./-]*\d+(?:[\s.,/-]+\d+)?$|(?:true|false|wahr|falsch)$", re.I)
 ODD_BLANKS = re.compile(r"[^\S ]+")
@@ -78,7 +79,7 @@ def separator_of(text: str, names_columns: Callable[[list[str]], bool]) -> str:
     for line in text.split("\n", MOST_TITLES)[:MOST_TITLES]:
         separator = max(SEPARATORS.values(), key=line.count)
         try:
-            if names_columns(heads([one for row in csv.reader([line], delimiter=separator) for one in row])):
+            if names_columns(heads([one for row in csv.reader([line[:LONGEST]], delimiter=separator) for one in row])):
                 return separator
         except csv.Error:
             pass
@@ -97,6 +98,8 @@ def split(file: str, text: str, separator: str) -> list[list[str]]:
         long = next((place for place, one in enumerate(row) if len(one) > MOST_SIGNS), None)
         if long is not None:
             raise BadInput(f"{file}: row {number}, column {letters(long)}: a cell has at most {MOST_SIGNS:,} signs")
+        if any(row[MOST_COLUMNS:]):
+            raise BadInput(f"{file}: row {number}: a table has at most {MOST_COLUMNS:,} columns, and this one {len(row):,}")
     return rows
 
 

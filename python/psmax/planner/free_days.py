@@ -7,11 +7,12 @@ from ..dates import FAR, FAR_YEARS, read_moment
 from ..errors import BadInput
 from ..extras import extra
 from ..files import read_text
-from ..letters import short
+from ..letters import at_most, short
 
 CODE = re.compile(r"([A-Z]{2})(?:-([A-Z0-9]{1,3}))?")  # of a country, and of a part of it (ISO 3166)
 YEARS = 10  # from the project's first day on, for which public holidays are taken
 DAY = datetime.timedelta(days=1)
+MOST_SIGNS, MOST_LINES, MOST_CODES, MOST_DAYS = 1_000_000, 10_000, 20, 100_000  # of a file
 DATE = r"\d{4}-\d{1,2}-\d{1,2}|\d{1,2}[./]\d{1,2}[./]\d{2,4}"
 LINE = re.compile(rf"(\S*?)(?:\s*(?:\.\.|\u2013|-|\bto\b|\bbis\b)\s*({DATE}))?(?:[,;\s]+(.*))?")
 Days = dict[datetime.date, str]
@@ -47,19 +48,34 @@ def of_file(path: str, order: str | None, first: datetime.date) -> Days:
     """A day a line, or a range such as 2026-12-24 .. 2027-01-06, and behind it a name; or a code, whose holidays are added.
     A line that begins with # is a note."""
     days: Days = {}
-    faults: list[str] = []
-    for number, line in enumerate(read_text(path).splitlines(), 1):
-        text = line.strip()
-        if text and not text.startswith("#"):
-            try:
-                days |= of_line(text, order, first, f"{path}: line {number}")
-            except ValueError as fault:
-                faults.append(f"{path}: line {number}: {fault}")
-            except BadInput as fault:
-                faults.append(f"{fault}")
+    faults, count = list[str](), 0
+    for number, text in lines_of(path).items():
+        try:
+            found = of_line(text, order, first, f"{path}: line {number}")
+            days |= found
+            count += len(found)
+        except ValueError as fault:
+            faults.append(f"{path}: line {number}: {fault}")
+        except BadInput as fault:
+            faults.append(f"{fault}")
+        if count > MOST_DAYS:
+            raise BadInput(f"{path}: line {number}: up to here there are more than {MOST_DAYS:,} days without work")
     if faults:
-        raise BadInput(*faults)
+        raise BadInput(*at_most(faults))
     return days
+
+
+def lines_of(path: str) -> dict[int, str]:
+    """Those that are neither blank nor notes, by their numbers."""
+    text = read_text(path)
+    if len(text) > MOST_SIGNS:
+        raise BadInput(f"{path}: too long: a list of days without work has at most {MOST_SIGNS:,} signs")
+    found = {number: line.strip() for number, line in enumerate(text.splitlines(), 1) if line.strip()[:1] not in ("", "#")}
+    if len(found) > MOST_LINES:
+        raise BadInput(f"{path}: a list of days without work has at most {MOST_LINES:,} lines, and this one {len(found):,}")
+    if sum(CODE.match(line) is not None for line in found.values()) > MOST_CODES:
+        raise BadInput(f"{path}: a list of days without work names at most {MOST_CODES} countries")
+    return found
 
 
 def of_line(text: str, order: str | None, first: datetime.date, place: str) -> Days:

@@ -19,6 +19,7 @@ START = "start"  # the start of the project, as something to come after
 START_OF = "start of "  # before a name: its start, and not its end
 WITH = "with "  # before a name: start to start, with lags 0 and 0
 ANY = "any"  # no minimum lag
+MOST_COMPARED = 100  # unknown names that are compared with all names
 QUOTED = re.compile(r'\s*(?:"((?:[^"]|"")*)"\s*|([^;]*))(?:;|$)')
 GERMAN = {"EA": "FS", "AA": "SS", "EE": "FF", "AE": "SF"}
 LINK = re.compile(r"(.*?)\s*(?:(FS|SS|FF|SF|EA|AA|EE|AE)\s*([-+][^<\u2264]*)?(?:(?:<=?|\u2264)(.*))?)?", re.I)
@@ -41,6 +42,7 @@ class Activities:
     planned: Sequence[int]  # the same by the column of durations, whatever has started
     mornings: dict[int, list[int]] = field(default_factory=dict)  # times at which dates say that an activity may start
     lasts: dict[int, int] = field(default_factory=dict)  # the last part of each first one, of what may pause
+    unknown: dict[str, str] = field(default_factory=dict)  # names that no activity has, with what is said of a near one
 
     def length(self, number: int) -> int:
         return self.durations[number - 1]
@@ -246,7 +248,9 @@ def no_activity(activities: Activities, name: str) -> str:
         return "a name is missing beside a ';'"
     if all(part.strip() in activities.names for part in name.split(",")):
         return f"no activity '{short(name)}'; between names stands ';', and not ','"
-    return f"no activity '{short(name)}'{did_you_mean(name, [*activities.names, *activities.groups])}"
+    if name not in activities.unknown and len(activities.unknown) < MOST_COMPARED:
+        activities.unknown[name] = did_you_mean(name, [*activities.names, *activities.groups])
+    return f"no activity '{short(name)}'{activities.unknown.get(name, '')}"
 
 
 def did_you_mean(name: str, names: list[str]) -> str:

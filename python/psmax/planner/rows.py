@@ -3,6 +3,7 @@ import datetime
 import re
 from collections.abc import Iterable, Mapping, Sequence
 from dataclasses import dataclass, field, replace
+from itertools import accumulate
 
 from ..calendars import Calendar
 from ..dates import FAR, FAR_YEARS, Moment, is_before, is_dated, read_moment
@@ -268,13 +269,17 @@ def is_summary(rows: Sequence[Row], depth: Sequence[int], place: int) -> bool:
 
 def groups(rows: Sequence[Row], depth: Sequence[int], summaries: Sequence[bool]) -> list[Group]:
     """Each with the rows below that stand deeper, or, where nothing says how deep, up to the next group."""
-    found = []
-    for place, row in enumerate(rows):
-        if summaries[place]:
-            by_depth = any(deep != depth[place] for deep in depth)
-            stop = next((other for other in range(place + 1, len(rows))
-                         if (depth[other] <= depth[place] if by_depth else summaries[other])), len(rows))
-            first = 1 + sum(not one for one in summaries[:place])
-            count = sum(not one for one in summaries[place:stop])
-            found.append(Group(row.cell(Column.NAME), range(first, first + count)))
+    stops = next_above(depth if len({*depth}) > 1 else [not one for one in summaries])
+    before = [*accumulate((not one for one in summaries), initial=0)]  # how many activities stand before each row
+    return [Group(row.cell(Column.NAME), range(1 + before[place], 1 + before[stops[place]]))
+            for place, row in enumerate(rows) if summaries[place]]
+
+
+def next_above(depth: Sequence[int]) -> list[int]:
+    """Of each row the next one that is not deeper, or where the rows end."""
+    found, above = [len(depth)] * len(depth), list[int]()
+    for place, deep in enumerate(depth):
+        while above and depth[above[-1]] >= deep:
+            found[above.pop()] = place
+        above.append(place)
     return found

@@ -145,6 +145,8 @@ class Reading:
         self.part()
         for row in self.rows:
             self.add_activity(row)
+        if len(self.rows) > MOST_ACTIVITIES:
+            self.faults.tell()  # before each is compared with all others
         self.planned = [*self.durations]
         progress.read(self.rows, self.durations, self.faults)
         if crews is not None:
