@@ -15,7 +15,7 @@ OLD = b"an older file\n"
 PROJECT = networks.project(100, 1, 0).text()  # takes some thousand conflicts
 FEW, CONFLICTS = "300", "1000"
 SMALL = harness.seeded(24, 9)[1]  # whose record by psmax has 154,974 bytes
-PART = "record.part"
+PARTS = ("lemmas.part", "record.part")  # in the order in which a run looks for them
 
 
 class Task(NamedTuple):
@@ -44,11 +44,11 @@ class Record(Run):
         self.whole = {written: self.holds(written) or b"" for written in task.writes}  # where nothing interrupts it
 
     def fault(self) -> str | None:
-        odd = {path.name for path in self.there.iterdir()} - {*self.before, PART}
+        odd = {path.name for path in self.there.iterdir()} - {*self.before, *(f"{name}.part" for name in self.task.writes)}
         if odd:
             return f"{odd} lie there"
-        told = (self.fault_of(name, old) for name, old in self.before.items())
-        return next(filter(None, told), None) or self.fault_of_part()
+        told = [*(self.fault_of(name, old) for name, old in self.before.items()), *map(self.fault_of_part, PARTS)]
+        return next(filter(None, told), None)
 
     def fault_of(self, name: str, old: bytes) -> str | None:
         data = self.holds(name)
@@ -65,34 +65,36 @@ class Record(Run):
     def proves(self, data: bytes, is_cut: bool = False) -> bool:
         return judges.by_program(self.task.program, self.project, data, is_cut)[0] == 0
 
-    def fault_of_part(self) -> str | None:
-        part = self.holds(PART)
-        return None if part is None or self.is_right(PART, part, self.is_part) else f"{PART} is no beginning of a record"
+    def fault_of_part(self, name: str) -> str | None:
+        part = self.holds(name)
+        is_right = part is None or self.is_right(name, part, partial(self.is_part, name.removesuffix(".part")))
+        return None if is_right else f"{name} is no beginning of a file"
 
-    def is_part(self, data: bytes) -> bool:
-        """That of a cube stands on lemmas of others, so it proves nothing alone."""
-        return self.whole["record"].startswith(data) if self.is_cube else self.proves(data, is_cut=True)
+    def is_part(self, name: str, data: bytes) -> bool:
+        """Those of a cube prove nothing alone."""
+        return self.whole[name].startswith(data) if self.is_cube else self.proves(data, is_cut=True)
 
     def goes_on(self) -> str | None:
-        if self.holds(PART) is not None:
-            fault = self.fault_of_second() or (None if self.is_cube else self.fault_of_resume())
-            (self.there / PART).unlink()
-            if fault is not None:
-                return fault
+        for part in PARTS:
+            if self.holds(part) is not None:
+                fault = self.fault_of_second(part) or (None if self.is_cube else self.fault_of_resume(part))
+                (self.there / part).unlink()
+                if fault is not None:
+                    return fault
         status, _, told = self.run()
         return self.fault() if status == self.status else f"the same command ends with {status}: {told.decode()}"
 
-    def fault_of_second(self) -> str | None:
+    def fault_of_second(self, part: str) -> str | None:
         """The same command names what is left, and touches nothing."""
         before = disks.contents(self.there)
         status, out, told = self.run()
-        if (status, out) != (2, b"") or not told.startswith(f"error: {PART} is there".encode()):
+        if (status, out) != (2, b"") or not told.startswith(f"error: {part} is there".encode()):
             return f"the same command ends with {status}: {told.decode()}"
         return None if before == disks.contents(self.there) else "the same command has touched what is left"
 
-    def fault_of_resume(self) -> str | None:
+    def fault_of_resume(self, part: str) -> str | None:
         """A search goes on from what is left."""
-        words = [self.task.program, "solve", "--resume", PART, "--conflicts", "0", "--record", self.folder / "resumed"]
+        words = [self.task.program, "solve", "--resume", part, "--conflicts", "0", "--record", self.folder / "resumed"]
         status, _, told = harness.ended(words, self.task.project, cwd=self.there)
         if status not in (0, 3):
             return f"a search that goes on from what is left ends with {status}: {told.decode()}"
@@ -129,7 +131,7 @@ def export(folder: Path, psmax: str, psprove: str) -> Task:
     words = ["solve", "--project", "project.sch", "--under", "path", "--import", "1.given", "--conflicts", CONFLICTS,
              "--export", "lemmas", "--record", "record"]
     before = {**searched(folder, psprove), "record": OLD, "lemmas": OLD}
-    return Task(psprove, words, before, writes=("record", "lemmas"), in_place=("lemmas",))
+    return Task(psprove, words, before, writes=("record", "lemmas"))
 
 
 def tree(folder: Path, psmax: str, psprove: str) -> Task:
