@@ -20,13 +20,14 @@ def is_here() -> bool:
 
 @functools.cache
 def chromium() -> Any:
-    """A browser without a window, in which all tests look at their pages one after another, since it starts slowly."""
+    """A browser without a window, in which all tests look at their pages one after another, since it starts slowly. As
+    an app it has no bars, which take as long again."""
     from selenium import webdriver
     from selenium.webdriver.chrome.options import Options
     from selenium.webdriver.chrome.service import Service
     kept, options = tempfile.TemporaryDirectory(ignore_cleanup_errors=True), Options()
     for word in ("--headless", "--no-sandbox", "--disable-gpu", "--disable-dev-shm-usage", f"--user-data-dir={kept.name}",
-                 f"--window-size={WIDTH},{HEIGHT}", "--force-device-scale-factor=1"):
+                 f"--window-size={WIDTH},{HEIGHT}", "--force-device-scale-factor=1", "--app=data:,"):
         options.add_argument(word)
     options.binary_location = shutil.which("chromium") or ""
     driver = webdriver.Chrome(service=Service(shutil.which("chromedriver") or ""), options=options)

@@ -2,9 +2,9 @@
 calculation by hand, or from a proof of psmax."""
 import functools
 import io
-import json
 import os
 import pathlib
+import py_compile
 import signal
 import subprocess
 import sys
@@ -25,9 +25,18 @@ INPUTS = TOP / "tests" / "inputs"
 EXAMPLES = TOP / "examples"
 PROJECTS = TOP / "planner" / "projects"
 STAND_IN = TOP / "planner" / "tests" / "stand_in.py"
-PSMAX = os.environ.get("PSMAX") or str(TOP / "psmax")
-PSPROVE = os.environ.get("PSPROVE") or str(TOP / "psprove")
-CALLED = {"PSMAX": PSMAX, "PSPROVE": PSPROVE}  # the programs that are called, as variables of the environment
+
+
+def started_by_script(name: str) -> str:
+    """The one that is named, or that which the script at the top starts, without the shell of that."""
+    there = [path for path in (TOP / "release" / name, TOP / "build" / name) if path.exists()]
+    return os.environ.get(name.upper()) or str(max(there, key=lambda path: path.stat().st_mtime, default=TOP / name))
+
+
+PSMAX, PSPROVE = started_by_script("psmax"), started_by_script("psprove")
+COMPILED = tempfile.TemporaryDirectory()  # where each Python that is started finds what another one has compiled
+# The environment of what is started: the programs that are called, and that.
+CALLED = {"PSMAX": PSMAX, "PSPROVE": PSPROVE, "PYTHONPYCACHEPREFIX": COMPILED.name, "PYTHONDONTWRITEBYTECODE": ""}
 
 # Two jobs of 3 and 4 on one machine: the README's first project without its lag. Every schedule takes 7 at least.
 TWO_JOBS = "2 1 0 0\n0 1 0\n1 1 0\n2 1 0\n3 1 0\n0 1 0 0\n1 1 3 1\n2 1 4 1\n3 1 0 0\n1\n"
@@ -95,6 +104,12 @@ def psmax(*words: object, given: bytes = b"") -> str:
 
 
 @functools.cache
+def compiled(script: pathlib.Path) -> str:
+    """A script of the tests that is started many times."""
+    return str(py_compile.compile(str(script), f"{COMPILED.name}/{script.stem}.pyc", doraise=True))
+
+
+@functools.cache
 def job_shop() -> bytes:
     made = "import projects, sys; sys.stdout.buffer.write(projects.job_shop(20, 15, 1).text())"
     return subprocess.run([sys.executable, "-c", made], cwd=TOP / "bench", capture_output=True, check=True).stdout
@@ -121,8 +136,8 @@ class InFolder(unittest.TestCase):
 
     def stand_in(self, **story: object) -> str:
         """A program that stands in for psprove: stand_in.py says what it does."""
-        path = self.file("story", json.dumps(story))
-        return self.program("stand-in", f'exec {sys.executable} -ES {STAND_IN} {path} "$@"')
+        path = self.file("story", repr(story))
+        return self.program("stand-in", f'exec {sys.executable} -ES {compiled(STAND_IN)} {path} "$@"')
 
     def hard(self) -> pathlib.Path:
         """A project that no search here settles in a minute, and of which psprove finds a schedule at once."""

@@ -1,36 +1,47 @@
 """planner/tests/stand_in.py STORY solve WORD..
 
-Stands in for psprove. STORY is a file of JSON, which says what it does:
+Stands in for psprove. STORY is a file with a dictionary of Python, which says what it does:
 
 tells   the reports of its book, one after another, each with the bound, and perhaps with starts
 then    "answers" at once; "pairs", with two jobs at a time, whatever the project is; "waits" for its limits, and answers;
         "sticks", and has to be killed; or "dies"
 answer  the starts and the bound of its answer, which is otherwise that of its last report
 record  the seconds that its record takes after the answer"""
-import json
+from __future__ import annotations
+
 import os
-import signal
 import sys
 import time
-from typing import Any
 
+TYPE_CHECKING = False  # this imports nothing that it can do without: a test starts it many times
+if TYPE_CHECKING:
+    from typing import Any
+
+    Row = dict[str, Any]
+
+KILL = 9
 STUCK = 30.0  # seconds
 FOUND = {"found": "by a dive"}
 
 
-def report(told: dict[str, Any]) -> dict[str, Any]:
+def to_json(told: object) -> str:
+    """Of what has no signs but those of numbers and plain words."""
+    return str(told).replace("'", '"').replace("None", "null")
+
+
+def report(told: Row) -> Row:
     starts = {"makespan": told["starts"][-1], **FOUND, "starts": told["starts"]} if "starts" in told else {}
     return {"seconds": 0, "bound": told["bound"], **starts}
 
 
-def answer(told: dict[str, Any]) -> dict[str, Any]:
+def answer(told: Row) -> Row:
     starts = told.get("starts")
     status = "unknown" if starts is None else "optimal" if starts[-1] == told["bound"] else "feasible"
     return {"conflicts": 1, "bound": told["bound"], "makespan": None if starts is None else starts[-1], "starts": starts,
             "status": status}
 
 
-def pairs(text: str) -> dict[str, Any]:
+def pairs(text: str) -> Row:
     """The starts of jobs of which each is tied to jobs before it alone that have an even or an odd number as it has."""
     count, *_ = map(int, text.split("\n", 1)[0].split())
     days = [int(line.split()[2]) for line in text.splitlines()[count + 3 : 2 * count + 5]]
@@ -52,18 +63,18 @@ def wait(options: dict[str, str]) -> None:
 
 def main(path: str, *words: str) -> None:
     with open(path) as file:
-        story = json.load(file)
+        story: Row = eval(file.read())
     for told in story["tells"]:
-        print(json.dumps(report(told)), file=sys.stderr, flush=True)
+        print(to_json(report(told)), file=sys.stderr, flush=True)
     if story["then"] == "dies":
-        os.kill(os.getpid(), signal.SIGKILL)
+        os.kill(os.getpid(), KILL)
     if story["then"] == "sticks":
         time.sleep(STUCK)
     options = dict(zip(words, words[1:]))
     if story["then"] == "waits":
         wait(options)
     told = answer(pairs(project(options)) if story["then"] == "pairs" else story.get("answer", story["tells"][-1]))
-    print(json.dumps(told), flush=True)
+    print(to_json(told), flush=True)
     time.sleep(story.get("record", 0))
     with open(options["--record"], "w") as file:
         file.write("record 3\n")

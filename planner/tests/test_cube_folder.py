@@ -14,8 +14,8 @@ from unittest import mock
 from psmax.cubes import answer, folder
 from psmax.cubes.tree import Driven, with_sum
 
-from .helpers import InFolder, plan
-from .test_cubes import FOUR, STAND_IN, InCubes
+from .helpers import InFolder, compiled, plan
+from .test_cubes import FOUR, STAND_IN, InCubes, in_four
 
 VICTIM = "my own words\n"
 
@@ -26,9 +26,9 @@ def made() -> tempfile.TemporaryDirectory[str]:
     kept = tempfile.TemporaryDirectory()
     folder = pathlib.Path(kept.name)
     (folder / "four.sch").write_text(FOUR)
-    (folder / "psprove").write_text(f'#!/bin/sh\nexec {sys.executable} -ES {STAND_IN} 0 "$@"\n')
+    (folder / "psprove").write_text(f'#!/bin/sh\nexec {sys.executable} -ES {compiled(STAND_IN)} 0 "$@"\n')
     (folder / "psprove").chmod(0o755)
-    with mock.patch.multiple("psmax.cubes.driver", CUBES=4, CONFLICTS=1_000_000):
+    with in_four():
         ran = plan("solve", folder / "four.sch", "--out", f"{folder}/cubes/", "--jobs", "1", psprove=f"{folder}/psprove")
     assert ran.returncode == 0, ran.stderr
     return kept

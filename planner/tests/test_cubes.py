@@ -1,6 +1,6 @@
 """One project in cubes: whatever is killed or broken on the way, the answer is the same, and what is wrong is named."""
 import contextlib
-import importlib.util
+import importlib
 import json
 import os
 import pathlib
@@ -13,6 +13,7 @@ import time
 import unittest
 import zlib
 from collections.abc import Callable
+from multiprocessing.process import BaseProcess
 from unittest import mock
 
 from psmax.cubes import cube
@@ -20,13 +21,13 @@ from psmax.cubes.driver import MOST_LEMMAS, Lemmas
 from psmax.cubes.machines import Cluster
 from psmax.planner.status import seconds_left
 
-from .helpers import PROJECTS, PSPROVE, TOP, InFolder, plan, psmax, started, told_until
+from . import scheduler
+from .helpers import PROJECTS, PSPROVE, TOP, InFolder, compiled, plan, psmax, started, told_until
 
 STAND_IN = pathlib.Path(__file__).with_name("cube_stand_in.py")
 SECONDS = 300.0  # that something may take on a machine that does other work too
 LOTS = PROJECTS / "vaccine-lots.sch"
 SEARCHES_CUBES = b"--under" in subprocess.run([PSPROVE, "solve", "--help"], capture_output=True).stdout
-WITHOUT_DASK = "Dask isn't here: install python3-distributed"
 
 # By hand: 9 periods of work on one machine. 2 starts 6 or more after 1 starts, and 4 at most 3 before 3 starts. So 1, 3, 4 and
 # 2 take 9 one after the other, and nothing can take less.
@@ -76,7 +77,7 @@ class InCubes(InFolder):
 
     def psprove(self, seconds: float = 0.0) -> str:
         """A stand-in whose searches take so long."""
-        return self.program(f"psprove-{seconds:g}", f'exec {sys.executable} -ES {STAND_IN} {seconds} "$@"')
+        return self.program(f"psprove-{seconds:g}", f'exec {sys.executable} -ES {compiled(STAND_IN)} {seconds} "$@"')
 
     def rows(self, step: str) -> list[dict[str, object]]:
         path = self.out / "rows"
@@ -97,7 +98,7 @@ class InCubes(InFolder):
         self.assertEqual(ran.returncode, 0, ran.stderr)
         return ran.stdout.removeprefix(f"{self.out / 'record'}: ").removesuffix(f", of {self.out / 'project.sch'}\n")
 
-    def searches(self, driver: int) -> list[int]:
+    def searches(self, driver: int | None) -> list[int]:
         """The psproves that a driver started."""
         threads = pathlib.Path(f"/proc/{driver}/task").glob("*/children")
         return [int(pid) for thread in threads for pid in thread.read_text().split()]
@@ -112,6 +113,11 @@ class InCubes(InFolder):
                 if state_of(pid) == "T":
                     os.kill(pid, signal.SIGKILL)
                     return pid
+
+
+def in_four() -> contextlib.AbstractContextManager[object]:
+    """The project is split once, in four cubes that are not split again."""
+    return mock.patch.multiple("psmax.cubes.driver", CUBES=4, CONFLICTS=1_000_000)
 
 
 class Here(InCubes):
@@ -168,12 +174,13 @@ class Here(InCubes):
 
     def test_logs_that_were_never_right(self) -> None:
         """What is wrong is seen at the join: the cubes, and those that got the lemma of one, are searched again."""
-        self.solved()
-        log = self.out / "cubes" / f"{self.rows('given')[-1]['number']}.log"
-        log.write_bytes(log.read_bytes()[:-5])
-        with mock.patch("psmax.cubes.tree.Driven.look", return_value=()):
-            self.solved(aside=1)
-        self.assertEqual(len(self.rows("ended")), 17 + 1)
+        with in_four():
+            self.solved()
+            log = self.out / "cubes" / f"{self.rows('given')[-1]['number']}.log"
+            log.write_bytes(log.read_bytes()[:-5])
+            with mock.patch("psmax.cubes.tree.Driven.look", return_value=()):
+                self.solved(aside=1)
+        self.assertEqual(len(self.rows("ended")), 5 + 1)
 
     def test_a_search_that_fails(self) -> None:
         """Each time: the cube is named, and the same command with a psprove that works goes on."""
@@ -181,7 +188,8 @@ class Here(InCubes):
         ran = plan("solve", self.project, "--out", f"{self.out}/", psprove=bad)
         self.assertEqual((ran.returncode, ran.stdout), (1, ""))
         self.assertIn("plan: cube - failed 3 times: psprove solve ended with status 1: no memory\n", ran.stderr)
-        self.solved()
+        with in_four():
+            self.solved()
 
     def test_the_time_is_over(self) -> None:
         """What is known then is the answer, and the record proves the bound."""
@@ -193,10 +201,10 @@ class Here(InCubes):
 
     def test_a_table(self) -> None:
         """By hand: the crane is away from 2 to 4, so no job of 3 or 4 fits before that, and both take until 11. It is away
-        later, too, so the end of the text is no makespan. In four cubes that are not split again."""
+        later, too, so the end of the text is no makespan."""
         self.file("away.csv", "resource,from,to,units\ncrane,2,4,1\ncrane,12,13,1\n")
         table = self.file("jobs.csv", "absences,away.csv\n\nactivity,days,crane (1)\nlift,3,1\nturn,4,1\n")
-        with mock.patch.multiple("psmax.cubes.driver", CUBES=4, CONFLICTS=1_000_000):
+        with in_four():
             ran = plan("solve", table, "--out", f"{self.out}/", "--json", psprove=self.psprove())
         told = json.loads(ran.stdout)
         self.assertEqual((told["status"], told["makespan"], told["names"]), ("optimal", 11, ["lift", "turn"]))
@@ -209,7 +217,8 @@ class Here(InCubes):
         self.refused(plan("solve", self.project, "--cluster", "tcp://127.0.0.1:1"), 2, "--cluster needs --out")
         self.refused(plan("solve", self.project, "--out", f"{self.folder}/"), 2, "is no folder of cubes")
         self.refused(plan("status", self.folder), 2, "is no folder of cubes")
-        self.solved()
+        with in_four():
+            self.solved()
         other = self.file("other.sch", FOUR.replace("4 1 2 1", "4 1 1 1"))
         self.refused(plan("solve", other, "--out", self.out), 2, "was begun with another project")
 
@@ -217,6 +226,13 @@ class Here(InCubes):
         with mock.patch.dict(sys.modules, {"distributed": None}):
             ran = plan("solve", self.project, "--out", self.out, "--cluster", "tcp://127.0.0.1:1")
         self.refused(ran, 1, "--cluster needs Dask (", "install python3-distributed, or `pip install distributed`")
+
+    @unittest.skipUnless(scheduler.is_here(), scheduler.MISSING)
+    def test_no_scheduler(self) -> None:
+        with mock.patch("psmax.cubes.machines.CONNECT", 1.0):
+            ran = plan("solve", self.project, "--out", self.out, "--cluster", "tcp://127.0.0.1:1")
+        self.assertEqual((ran.returncode, ran.stdout), (1, ""))
+        self.assertIn("plan: tcp://127.0.0.1:1: ", ran.stderr.splitlines()[-1])
 
 
 @unittest.skipUnless(SEARCHES_CUBES, "this psprove searches no cubes")
@@ -315,9 +331,13 @@ class Chosen(unittest.TestCase):
         self.assertIsNone(seconds_left([(0.0, 0.0)]))
 
 
-@unittest.skipUnless(importlib.util.find_spec("distributed"), WITHOUT_DASK)
+@unittest.skipUnless(scheduler.is_here(), scheduler.MISSING)
 class OnDask(InCubes):
     """A scheduler and two workers on this machine."""
+
+    @classmethod
+    def setUpClass(cls) -> None:
+        importlib.import_module("distributed")  # once, for all copies of this process
 
     def setUp(self) -> None:
         super().setUp()
@@ -329,16 +349,13 @@ class OnDask(InCubes):
         until(lambda: is_open(port))
         self.workers = [self.worker() for _ in range(2)]
 
-    def dask(self, *words: str) -> subprocess.Popen[bytes]:
-        page = "--no-dashboard", "--dashboard-address", "127.0.0.1:0"  # without the address it is open to other machines
-        child = subprocess.Popen([sys.executable, "-m", "distributed.cli.dask_" + words[0], *words[1:], *page],
-                                 env={**os.environ, "PSPROVE": self.psprove(0.3)}, cwd=self.folder,
-                                 stdout=subprocess.DEVNULL, stderr=subprocess.DEVNULL)
-        self.addCleanup(child.wait)
+    def dask(self, *words: str) -> BaseProcess:
+        child = scheduler.started(self.folder, {"PSPROVE": self.psprove(0.3)}, *words)
+        self.addCleanup(child.join)
         self.addCleanup(child.kill)
         return child
 
-    def worker(self) -> subprocess.Popen[bytes]:
+    def worker(self) -> BaseProcess:
         return self.dask("worker", self.address, "--host", "127.0.0.1", "--nworkers", "1", "--nthreads", "1", "--no-nanny",
                          "--memory-limit", "0")
 
@@ -395,9 +412,3 @@ class OnDask(InCubes):
             self.worker()
             out, rest = verify.communicate()
         self.assertEqual((verify.returncode, out.partition(": ")[2]), (4, "its step 1 is wrong (claim)\n"), told + rest)
-
-    def test_no_scheduler(self) -> None:
-        with mock.patch("psmax.cubes.machines.CONNECT", 1.0):
-            ran = plan("solve", self.project, "--out", self.out, "--cluster", "tcp://127.0.0.1:1")
-        self.assertEqual((ran.returncode, ran.stdout), (1, ""))
-        self.assertIn("plan: tcp://127.0.0.1:1: ", ran.stderr.splitlines()[-1])

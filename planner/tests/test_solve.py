@@ -188,11 +188,11 @@ class Progress(InFolder):
 
     def test_time_limit(self) -> None:
         begun, path = time.monotonic(), self.hard()
-        with started("solve", path, "--seconds", "2", "--jobs", "1") as child:
+        with started("solve", path, "--seconds", "1", "--jobs", "1") as child:
             out, told = child.communicate()
         self.assertLess(time.monotonic() - begun, 60)
         self.assertEqual(child.returncode, 3)
-        self.assertTrue(told.endswith("the 2 seconds are over\n"), told)
+        self.assertTrue(told.endswith("the 1 seconds are over\n"), told)
         self.held(out, path, told)
 
     def test_interrupt(self) -> None:

@@ -1,8 +1,6 @@
 """`plan watch` in a real browser."""
 import json
-import time
 import unittest
-from collections.abc import Callable
 from itertools import takewhile
 from typing import Any
 from urllib.parse import quote
@@ -12,6 +10,15 @@ from .helpers import EXAMPLES, TELLS, plan
 from .test_watch import CHANGED, HALL, TWO, Watches
 from .watching import SECONDS, Watching
 
+# Looks in the page itself, which is cheap, until something is so.
+WAIT = """const isSo = function () {{ {} }}, words = [...arguments], tell = words.pop();
+const end = Date.now() + 1000 * words.pop();
+const look = () => isSo(...words) ? tell(true) : Date.now() < end ? setTimeout(look, 50) : tell(false);
+look();"""
+HAS = """const text = document.getElementById(arguments[0]).textContent;
+return arguments[1].every((one) => text.includes(one))"""
+IS_IDLE = " && document.getElementById('stop').disabled"
+SHOWN = "return document.body.dataset.shown"
 ROWS = "return [...document.querySelectorAll('#lines .line th')].map((one) => one.textContent)"
 TEXT = "return document.getElementById(arguments[0]).textContent"
 FETCH = """const [address, method, done] = arguments;
@@ -26,6 +33,7 @@ class InBrowser(Watches):
     @classmethod
     def setUpClass(cls) -> None:
         cls.driver = browser.chromium()
+        cls.driver.set_script_timeout(2 * SECONDS)
 
     def opened(self, text: str, *words: object, **more: str) -> Watching:
         watch = self.watching(text, *words, **more)
@@ -38,18 +46,17 @@ class InBrowser(Watches):
     def text(self, name: str) -> str:
         return str(self.run_script(TEXT, name))
 
-    def until(self, is_so: Callable[[], object]) -> None:
-        end = time.monotonic() + SECONDS
-        while not is_so():
-            self.assertLess(time.monotonic(), end, f"{self.text('line')} {self.text('faults')} {self.text('why')}")
-            time.sleep(0.05)
+    def until(self, script: str, *words: object) -> None:
+        """Until this script says that it is so."""
+        is_so = self.driver.execute_async_script(WAIT.format(script), *words, SECONDS)
+        self.assertTrue(is_so, f"{self.text('line')} {self.text('faults')} {self.text('why')}")
 
     def until_text(self, name: str, *texts: str) -> None:
-        self.until(lambda: all(text in self.text(name) for text in texts))
+        self.until(HAS, name, texts)
 
     def done(self, text: str) -> None:
         """Nothing is searched any more, and the line has this text."""
-        self.until(lambda: text in self.text("line") and self.run_script("return document.getElementById('stop').disabled"))
+        self.until(HAS + IS_IDLE, "line", [text])
 
     def click(self, name: str) -> None:
         self.driver.find_element("id", name).click()
@@ -61,7 +68,7 @@ class InBrowser(Watches):
         self.done("(27 days)")
         self.click("in")
         wide = "return document.querySelector('#ruler svg').width.baseVal.value"
-        self.until(lambda: self.run_script(wide) > 1500)
+        self.until(f"{wide} > 1500")
         self.run_script("document.querySelectorAll('#lines .line')[8].click()")
         self.run_script("scrollTo(0, 200); document.getElementById('chart').scrollLeft = 100")
         where = """const chart = document.getElementById("chart"), top = chart.getBoundingClientRect().top;
@@ -108,7 +115,7 @@ class InBrowser(Watches):
         self.opened(TWO, psprove=self.stand_in(tells=TELLS, then="waits"))
         for _ in range(2):
             self.until_text("line", "feasible 9 bound 6. The search goes on.")
-            self.until(lambda: len(self.run_script(ROWS)) == 2)
+            self.until(f"{ROWS}.length === 2")
             self.driver.refresh()
         self.until_text("line", "feasible 9 bound 6. The search goes on.")
         self.click("stop")
@@ -177,10 +184,10 @@ class InBrowser(Watches):
         rows = [f"job {job},{1 + job % 7},{1 + job % 2},{f'job {job - 4}' if job > 4 else ''}" for job in range(1, 301)]
         text = "activity,days,crew (5),after\n" + "\n".join(rows) + "\n"
         watch, took = self.opened(text, "--seconds", "0.3", psprove=self.stand_in(tells=[], then="pairs")), list[int]()
-        self.until(lambda: len(self.run_script(ROWS)) == 300)
+        self.until(f"{ROWS}.length === 300")
         for days in takewhile(lambda _: not took or min(took) >= 200, range(11, 31)):
-            known = self.run_script("return document.body.dataset.shown")
+            known = self.run_script(SHOWN)
             watch.table.write_text(text.replace("job 7,1,", f"job 7,{days},"))
-            self.until(lambda: self.run_script("return document.body.dataset.shown") != known)
+            self.until(f"{SHOWN} !== arguments[0]", known)
             took.append(int(self.run_script("return document.body.dataset.milliseconds")))
         self.assertLess(min(took), 200, json.dumps(took))

@@ -44,7 +44,7 @@ class WhatIf(InFolder):
 
     def test_a_stopped_search(self) -> None:
         """No claim but a bound where the time is over."""
-        ran = plan("whatif", self.hard(), "--seconds", "2", "--jobs", "1")
+        ran = plan("whatif", self.hard(), "--seconds", "0.8", "--jobs", "1")
         self.assertEqual(ran.returncode, 3)
         self.assertRegex(ran.stdout, r"^As it is: (feasible \d+|unknown) bound \d+\.\n")
         self.assertNotIn("which is proved", ran.stdout)
