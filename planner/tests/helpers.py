@@ -29,8 +29,8 @@ STAND_IN = TOP / "planner" / "tests" / "stand_in.py"
 
 def started_by_script(name: str) -> str:
     """The one that is named, or that which the script at the top starts, without the shell of that."""
-    there = [path for path in (TOP / "release" / name, TOP / "build" / name) if path.exists()]
-    return os.environ.get(name.upper()) or str(max(there, key=lambda path: path.stat().st_mtime, default=TOP / name))
+    there = [path for path in (TOP / "release" / name, TOP / "build" / name) if path.exists()] or [TOP / name]
+    return os.environ.get(name.upper()) or str(max(there, key=lambda path: path.stat().st_mtime))
 
 
 PSMAX, PSPROVE = started_by_script("psmax"), started_by_script("psprove")
