@@ -18,6 +18,8 @@ CREW = ("title;Halle\nab;26.03.2026\nArbeitstage;Mo-Fr\nArbeitszeit;08:00-12:00,
 # By hand: twelve hours from Thursday on end on Friday noon, and eight more on Monday noon, in summer time.
 TIMES = [("Aushub", "2026-03-26 08:00", "2026-03-27 12:00"), ("Abnahme", "2026-03-27 12:00", ""),
          ("Pflaster", "2026-03-27 13:00", "2026-03-30 12:00")]
+GROUPED = ("from,2026-03-02 06:00\nshift,00:00-24:00\nID,WBS,name,hours,Predecessors,crew (2)\n1,1,Unit A,,,\n2,1.1,dig,5,,1\n"
+           "3,1.2,pour,3,\"2FS+2 h,2FS<9 h\",2\n")
 KHAL = """[calendars]
 [[plan]]
 path = {0}/cal
@@ -113,6 +115,18 @@ class Clients(InFolder):
         self.assertEqual(found["hand over"], ("20260310T170000Z", "20260310T170000Z"))
         self.assertIn('predecessor-id="5" type="FF" lag="28800"', text)
         self.assertIn('<allocation task-id="5" resource-id="2" units="100"/>', text)
+
+    @unittest.skipUnless(shutil.which("xsltproc") and STYLE.exists(), "xsltproc or GNOME Planner isn't here: install planner")
+    def test_a_table_in_gnome_planner(self) -> None:
+        """Its importer has the groups with their activities, the links with their lags and the notes of a table."""
+        table, made = self.file("t.csv", GROUPED), self.folder / "t.xml"
+        self.assertEqual(plan("read", table, "--out", made).returncode, 0)
+        text = self.ran("xsltproc", STYLE, made)
+        rows = re.findall(r'<(/?)task(?: id=.*? name="(.*?)" note="(.*?)")?', text)
+        self.assertEqual([("</" if end else name, note) for end, name, note in rows if name or end], [
+            ("Unit A", ""), ("dig", ""), ("</", ""), ("pour", "Starts at most 9 h of work after dig ends."), ("</", ""),
+            ("</", ""), ("</", "")])
+        self.assertIn('predecessor-id="2" type="FS" lag="7200"', text)
 
     @unittest.skipUnless(shutil.which("tj3"), "tj3 isn't here")
     def test_taskjuggler(self) -> None:

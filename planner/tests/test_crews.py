@@ -6,7 +6,7 @@ import unittest
 from collections.abc import Iterator
 
 from psmax.calendars import Moments
-from psmax.planner.crew_hours import off_times, read_hours
+from psmax.crew_hours import off_times, read_hours
 
 from .helpers import InFolder, plan
 

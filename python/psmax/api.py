@@ -5,6 +5,7 @@ from typing import Self
 
 from . import formats, solver
 from .answer import Answer, Changed, Checked, Float, Progress, Schedule, Starts
+from .errors import BadInput
 from .files import read_bytes, write_whole
 from .model import Activity, Parts
 from .project_text import ProjectText
@@ -29,7 +30,11 @@ class Project(Parts):
 
     def text(self, format: str) -> str:
         """The project as a text of this format. A format that can't say all of it refuses."""
-        return formats.named(format).write(self)
+        one = formats.named(format)
+        if self.hours and not one.has_hours:
+            raise BadInput(f"{format} has no hours of resources; write this project as "
+                           f"{' or '.join(one.name for one in formats.FORMATS.values() if one.has_hours)}")
+        return one.write(self)
 
     def write(self, path: str | os.PathLike[str], format: str | None = None) -> None:
         """Writes the text into a file, whole or not at all; its suffix says the format, or else `format` does."""

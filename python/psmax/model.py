@@ -3,6 +3,7 @@ import operator
 from collections.abc import Collection, Mapping, Sequence, Sized
 from dataclasses import dataclass, field
 
+from .crew_hours import SPANS, Crews, Hours, with_hours
 from .errors import BadInput
 from .letters import short
 from .project import MOST_ACTIVITIES, MOST_ARCS, MOST_RESOURCES, MOST_UNITS, Arc, Goal
@@ -72,6 +73,14 @@ class Absence:
     units: int
 
 
+@dataclass(frozen=True)
+class Group:
+    """A summary row of a work breakdown, which charts show as a bracket over the activities below it."""
+
+    name: str
+    activities: range  # by their numbers, which stand one after another
+
+
 class Parts:
     """The resources, activities, lags and absences of a project. Names are unique, and none is empty."""
 
@@ -83,6 +92,10 @@ class Parts:
         self.lags: list[Lag] = []
         self.absences: list[Absence] = []
         self.ids: dict[int, str] = {}  # by which a planning tool knows the activities of these numbers
+        self.hours: dict[Resource, Hours] = {}  # of the resources that have hours of their own
+        self.groups: list[Group] = []  # from the outer one to those in it
+        self.status: int | None = None  # up to when it is known what was done
+        self.started: dict[int, int] = {}  # when the activities of these numbers did, which lags keep there
         self._source, self._sink = Activity("", 0, {}, 0), Activity("", 0, {}, -1)
         self._named: dict[str, Activity] = {}
 
@@ -189,10 +202,24 @@ class Parts:
         goal = goal_of(minimize)
         if goal is Goal.LATENESS:
             self._must_have_lateness()
-        return Numbers(
+        found = Numbers(
             (0, *(one.duration for one in self.activities), 0), tuple(rows), tuple(one.capacity for one in self.resources),
             tuple(arcs), tuple(AbsenceOfNumbers(one.resource.number, one.begins, one.ends, one.units) for one in self.absences),
             due, goal)
+        crews = self.crews()
+        return found if crews is None else with_hours(found, crews, None)
+
+    def crews_off(self) -> None:
+        """ValueError where hours of resources begin or end within a period."""
+        crews = self.crews()
+        if crews is not None:
+            crews.off(crews.after(crews.now, SPANS[0]))
+
+    def crews(self) -> Crews | None:
+        """The resources with hours of their own; none where there is no such resource."""
+        if not self.hours or self.work_time is None:
+            return None
+        return Crews({one.number: hours for one, hours in self.hours.items()}, self.work_time.calendar(), self.status or 0)
 
 
 def goal_of(minimize: str) -> Goal:

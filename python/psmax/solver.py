@@ -149,6 +149,10 @@ def violation(project: Parts, numbers: Numbers, starts: tuple[int, ...], one: ps
         text = (f"{names[head]} starts at {starts[head]}, and must start at {starts[tail] + lag} or later, since "
                 f"{names[tail]} starts at {starts[tail]}")
         return Violation(ViolationKind.LAG, own, None, None, text)
+    if one.kind == "horizon":
+        late = project.activities[one.numbers[0] - 1]
+        return Violation(ViolationKind.OVERLOAD, (late,), None, None,
+                         f"{late.name} ends behind {numbers.horizon}, up to which the hours of what it needs are known")
     return Violation(ViolationKind.START, (), None, None, f"the project must start at 0, and starts at {one.numbers[0]}")
 
 

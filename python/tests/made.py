@@ -5,7 +5,9 @@ import random
 from collections.abc import Iterator
 
 import psmax
+from psmax.crew_hours import read_hours
 from psmax.formats.shops import Operation, Shop, fill
+from psmax.model import Group
 from psmax.project import Arc
 
 HORIZON = 10  # no start of a small project is later
@@ -73,13 +75,14 @@ def tasks(seed: int, of_primavera: bool = False) -> psmax.Project:
     made.work_time = psmax.WorkTime("2026-03-02 08:00", "hours", "mon-wed,fri", (datetime.date(2026, 3, 6),),
                                     "08:00-12:00,13:00-17:00")
     resources = [made.resource(f"r <{k}>", chance.randint(1, 5)) for k in range(chance.randint(0, 3))]
+    has_begun = seed % 4 == 3
     for number in range(chance.randint(1, 6)):
         needs = {one: chance.randint(1, one.capacity) for one in resources
                  if chance.random() < 0.7 or of_primavera and not number}
         due = 40 * (seed % 2) or None if of_primavera else chance.choice([None, chance.randint(1, 9)])
-        length = chance.randint(0, 9) if number else 1
+        length = chance.randint(0, 9) if number else 5 if has_begun else 1
         made.activity(f"a & {number}", length, needs if length or not of_primavera else {}, due)
-    for one in made.activities:
+    for one in made.activities[has_begun:]:
         kind = chance.randrange(5)
         if kind < 3:
             least, most = [(3, 3), (4, None), (None, 40)][kind]
@@ -88,7 +91,37 @@ def tasks(seed: int, of_primavera: bool = False) -> psmax.Project:
         if chance.random() < 0.4:
             made.lag(chance.choice([first.start, first.end]), chance.choice([last.start, last.end]),
                      at_least=chance.randint(-3, 9))
+    if has_begun:
+        begin(made)
+    elif seed % 2:
+        add_more(made, random.Random(seed), of_primavera)
     return made
+
+
+def begin(made: psmax.Project) -> None:
+    """After two hours the first of five of the first activity are done, and nothing else has started."""
+    made.status, made.started = 2, {1: 0}
+    first, *others = made.activities
+    made.lag(made.start, first.start, at_least=0, at_most=0)
+    for one in others:
+        made.lag(made.start, one.start, at_least=2)
+
+
+def add_more(made: psmax.Project, chance: random.Random, of_primavera: bool) -> None:
+    """Groups, days of resources, and what Primavera has none of: absences, maximum lags and links in a circle."""
+    count, days = len(made.activities), chance.choice(["mon,tue", "tue,wed", "mon-wed"])
+    made.groups = [Group("all <1>", range(1, count + 1)), Group("some & 2", range(1, count // 2 + 2))]
+    for one in made.resources:
+        if chance.random() < 0.5 and any(one in activity.demands for activity in made.activities):
+            made.hours[one] = read_hours(f"{days} 08:00-12:00,13:00-17:00")
+        if chance.random() < 0.5 and not of_primavera:
+            begins = chance.randint(1, 30)
+            made.absence(one, begins, chance.choice([None, begins + 5]), chance.randint(1, one.capacity))
+    for first, last in itertools.combinations(made.activities, 2):
+        if chance.random() < 0.4 and not of_primavera:
+            made.lag(chance.choice([first.start, first.end]), chance.choice([last.start, last.end]), at_most=40)
+        if chance.random() < 0.2 and not of_primavera:
+            made.lag(last.start, first.start, at_least=-chance.randint(1, 50))
 
 
 def shortest(project: psmax.Project) -> int:

@@ -55,6 +55,9 @@ class Formats(InFolder):
                     self.assertEqual(vars(again.numbers()) | {"arcs": 0}, vars(project.numbers()) | {"arcs": 0})
                     self.assertEqual([one.name for one in again.activities], [one.name for one in project.activities])
                     self.assertEqual((again.work_time, again.text(name)), (project.work_time, text))
+                    if name in ("mspdi", "xer"):
+                        self.assertEqual((again.status, again.started), (project.status, project.started))
+                        self.assertEqual(again.groups, project.groups)
 
     def test_holidays(self) -> None:
         """As dates or as texts, they are the same days off. By hand, from Thursday 5 March 2026 on: with Friday off three days

@@ -97,7 +97,7 @@ class Mspdi(InFolder):
             (HALL.replace("<Name>inspection</Name><DayWorking>0", "<DayWorking>1"), "has an exception with work"),
             (HALL.replace("<Name>inspection</Name>", "<Type>2</Type>"), "has an exception that comes again and again"),
             (HALL.replace("<ToTime>17", "<ToTime>16", 1), "the days of the base calendar have different hours"),
-            (HALL.replace("<BaseCalendarUID>1<", f"{MONDAY_OFF}<BaseCalendarUID>1<"), "'crew' has days or"),
+            (HALL.replace("<BaseCalendarUID>1<", f"{MONDAY_OFF}<BaseCalendarUID>1<"), "'dig': it takes longer than all"),
             (HALL.replace("2026-03-20T17", "2926-03-20T17"), "'hand over': ConstraintDate is beyond the years 1900 to 2200"),
             (HALL.replace("</Tasks>", "</Task>"), "line 96, column 5: no XML: mismatched tag"),
         ):

@@ -16,6 +16,13 @@ def week(hours: str = HOURS) -> str:
     return f"<WeekDays>{''.join(days)}</WeekDays>"
 
 
+def days(hours: dict[int, str]) -> str:
+    """These days of the week with their hours, and no other."""
+    kinds = (f"<WeekDay><DayType>{kind}</DayType><DayWorking>{int(kind in hours)}</DayWorking><WorkingTimes>"
+             f"{hours.get(kind, '')}</WorkingTimes></WeekDay>" for kind in range(1, 8))
+    return f"<WeekDays>{''.join(kinds)}</WeekDays>"
+
+
 def calendar(uid: int, more: str = "", base: int | None = None) -> str:
     """A base calendar, or one that is based on another."""
     is_base, base = int(base is None), -1 if base is None else base
@@ -47,10 +54,10 @@ def there(units: int, begins: str = "NA", ends: str = "NA") -> str:
 
 
 def project(tasks: str, resources: str = "", calendars: str = "", assignments: str = "",
-            start: str = "2026-03-02T08:00:00") -> psmax.Project:
+            start: str = "2026-03-02T08:00:00", head: str = "") -> psmax.Project:
     return psmax.Project.read(
         f"<Project xmlns=\"http://schemas.microsoft.com/project\"><StartDate>{start}</StartDate>"
-        f"<CalendarUID>1</CalendarUID><Calendars>{calendars or calendar(1, week())}</Calendars><Tasks>{tasks}</Tasks>"
+        f"<CalendarUID>1</CalendarUID>{head}<Calendars>{calendars or calendar(1, week())}</Calendars><Tasks>{tasks}</Tasks>"
         f"<Resources>{resources}</Resources><Assignments>{assignments}</Assignments></Project>\n")
 
 
@@ -154,12 +161,51 @@ class Meant(unittest.TestCase):
         crew = resource("<CalendarUID>2</CalendarUID>")
         for same in (calendar(2, "", 1), calendar(2, "", 3) + calendar(3, week()), calendar(2, week())):
             self.assertEqual(len(project(task(1, "dig", 1), crew, calendar(1, week()) + same).resources), 1)
-        for other in (calendar(2, "", 3) + calendar(3, week(NIGHT)), calendar(2, monday, 1), calendar(2, week(NIGHT)),
-                      calendar(2, monday, 3) + calendar(3, week())):
-            self.refused(("resource 'crew' has days or hours of its own",), task(1, "dig", 1), crew,
+        for other in (calendar(2, monday, 1), calendar(2, monday, 3) + calendar(3, week())):
+            made = project(task(1, "dig", 1), crew, calendar(1, week()) + other)
+            [hours] = made.hours.values()
+            self.assertEqual((hours.days, hours.spans), ({1, 2, 3, 4}, ((480, 720), (780, 1020))))
+        for other in (calendar(2, "", 3) + calendar(3, week(NIGHT)), calendar(2, week(NIGHT))):
+            self.refused(("resource 'crew' has days or hours of its own: they go beyond",), task(1, "dig", 1), crew,
                          calendar(1, week()) + other)
         self.refused(("weeks with other days or hours",), task(1, "dig", 1), calendars=calendar(
             1, f"{week()}<WorkWeeks><WorkWeek>{week(NIGHT)}</WorkWeek></WorkWeeks>"))
+
+    def test_hours_of_a_resource(self) -> None:
+        """By hand, in two hours, in a project that works around the clock from 08:00 on: nights are one shift, of the day on
+        which each begins. Days with different hours, other days off, and what fits into no shift are refused."""
+        whole = "<WorkingTime><FromTime>00:00:00</FromTime><ToTime>00:00:00</ToTime></WorkingTime>"
+        early, late = (f"<WorkingTime><FromTime>{begins}:00:00</FromTime><ToTime>{ends}:00:00</ToTime></WorkingTime>"
+                       for begins, ends in (("00", "06"), ("18", "00")))
+        need = "<Assignment><TaskUID>1</TaskUID><ResourceUID>1</ResourceUID><Units>2</Units></Assignment>"
+        crew, all_days = resource("<CalendarUID>2</CalendarUID>"), calendar(1, days(dict.fromkeys(range(1, 8), whole)))
+        nights = {2: late, 3: early + late, 4: early + late, 5: early}
+        made = project(task(1, "weld", 1, 12), crew, all_days + calendar(2, days(nights), 1), need)
+        [hours] = made.hours.values()
+        self.assertEqual((hours.days, hours.spans, hours.text), ({0, 1, 2}, ((1080, 1800),), "mon,tue,wed 18:00-06:00"))
+        self.assertEqual([(one.begins, one.ends) for one in made.numbers().off[:3]], [(0, 5), (11, 17), (23, 29)])
+        off = ("<Exceptions><Exception><TimePeriod><FromDate>2026-03-05T00:00:00</FromDate><ToDate>2026-03-05T23:59:00</ToDate>"
+               "</TimePeriod><DayWorking>0</DayWorking></Exception></Exceptions>")
+        for length, week_of_crew, told in ((13, days(nights), "task 'weld': it takes longer than all that it needs is there"),
+                                           (1, days({2: late, 4: early}), "hours of its own: its days have different hours"),
+                                           (1, days(nights) + off, "hours of its own: other days off than the project's")):
+            self.refused((told,), task(1, "weld", 1, length), crew, all_days + calendar(2, week_of_crew, 1), need)
+
+    def test_the_field_of_maximum_lags(self) -> None:
+        """By the name that it has, whatever its number is. By hand, in hours: at most nine after the end, and from the start of
+        the project."""
+        def pour(text: str) -> str:
+            return task(2, "pour", 1, 3, f"<ExtendedAttribute><FieldID>188743731</FieldID><Value>{text}</Value>"
+                                         "</ExtendedAttribute>")
+
+        head = ("<ExtendedAttributes><ExtendedAttribute><FieldID>188743731</FieldID><Alias>maximum lags</Alias>"
+                "</ExtendedAttribute></ExtendedAttributes>")
+        made = project(task(1, "dig", 1, 5) + pour("1FS&lt;=540 min; 0SF&lt;=1200 min"), head=head)
+        self.assertEqual(lags(made), {("dig", "end", "pour", "start", None, 9), ("", "start", "pour", "end", None, 20)})
+        self.assertEqual(lags(project(task(1, "dig", 1, 5) + pour("my own words"))), set())
+        for text, told in (("9FS&lt;=540 min", "task 'pour': a maximum lag from 9, which is no task with work"),
+                           ("soon", "the field 'maximum lags' is not such as '4FS<=480 min': 'soon'")):
+            self.refused((told,), task(1, "dig", 1, 5) + pour(text), head=head)
 
     def test_what_is_not_active(self) -> None:
         """It is skipped, with its links and its assignments."""

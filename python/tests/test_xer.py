@@ -12,7 +12,11 @@ from .test_formats import DATA
 HALL = (DATA / "hall.xer").read_text()
 XML = psmax.Project.read(DATA / "hall.xml")
 STARTS = {"dig": 0, "pour": 4, "cure": 5, "lift & bolt": 9, "rails": 10, "watch": 8, "paint": 10, "hand over": 12}
-NIGHTS = f"%R\t11\tN\tNights\t\t\t\tCA_Base\t4\t20\t\t\tN\t{calendar_data('mon-fri', '18:00-22:00', ())}\n"
+USUAL = "08:00-12:00,13:00-17:00"
+NIGHTS, MORNINGS, THREE_DAYS, FRIDAYS = (
+    f"%R\t11\tN\t{name}\t\t\t\tCA_Base\t4\t20\t\t\tN\t{calendar_data(days, shift, ())}\n" for name, days, shift in (
+        ("Nights", "mon-fri", "18:00-22:00"), ("Mornings", "mon-thu", "08:00-12:00"), ("Three", "mon-wed", USUAL),
+        ("Fridays", "thu,fri", USUAL)))
 
 
 def put(table: str, name: str, column: str, value: str, text: str = HALL) -> str:
@@ -113,6 +117,23 @@ class Read(unittest.TestCase):
         hall = psmax.Project.read(add("RSRCRATE", "%R\t413\t400\t6\t\t2026-03-05 08:00\n"))
         self.assertEqual([(one.begins, one.ends, one.units) for one in hall.absences], [(0, 6, 2)])
 
+    def test_hours_of_a_resource(self) -> None:
+        """The crew works on other days than the activities, and all that need it depend on it. By hand, in half days: Monday to
+        Wednesday is there until 6, and again from 8 on, since Friday of the first week is off; mornings alone are too short."""
+        text = put("RSRC", "crew", "clndr_id", "11")
+        for name in ("A1010", "A1020", "A1040", "A1050", "A1060"):
+            text = put("TASK", name, "task_type", "TT_Rsrc", text)
+        hall = psmax.Project.read(add("CALENDAR", THREE_DAYS, text))
+        [(one, hours)] = hall.hours.items()
+        self.assertEqual((one.name, hours.text), ("crew", "mon,tue,wed 08:00-12:00,13:00-17:00"))
+        self.assertEqual([(off.begins, off.ends) for off in hall.numbers().off[:2]], [(6, 8), (14, 18)])
+        self.assertEqual(psmax.Project.read(hall.text("json")).numbers().off, hall.numbers().off)
+        for calendar, told in ((MORNINGS, "A1020 'pour': it takes longer than all that it needs is there at a time"),
+                               (FRIDAYS, "resource 'crew' works in the calendar 'Fridays', which has other days off")):
+            with self.subTest(told), self.assertRaises(psmax.BadInput) as caught:
+                psmax.Project.read(add("CALENDAR", calendar, text))
+            self.assertIn(told, f"{caught.exception}")
+
     def test_what_is_refused(self) -> None:
         """All faults of a file at once, each by the name of what has it."""
         nights = add("CALENDAR", NIGHTS)
@@ -123,7 +144,7 @@ class Read(unittest.TestCase):
             (put("PROJECT", "HALL", "last_recalc_date", "soon"), "last_recalc_date is no date such as 2026-03-02"),
             (add("PROJECT", "%R\t101\t10\tOTHER\tY\t\t\t\t\n"), "2 projects (OTHER, HALL)"),
             (put("TASK", "A1030", "clndr_id", "11", nights), "activity A1030 'cure': it has the calendar 'Nights'"),
-            (put("RSRC", "crew", "clndr_id", "11", nights), "A1050 'rails': its assignment of resource 'crew'"),
+            (put("RSRC", "crew", "clndr_id", "11", nights), "A1010 'dig': it needs resource 'crew' in the act"),
             (put("CALENDAR", "Standard", "clndr_data", mixed), "calendar 'Standard': its days have different hours"),
             (put("CALENDAR", "Standard", "clndr_data", friday[:-2]), "its clndr_data is cut off"),
             (put("TASKPRED", "PR_SS", "pred_task_id", "77"), "a link from an activity of another project"),
@@ -149,7 +170,8 @@ class Read(unittest.TestCase):
         changes: list[Callable[[psmax.Project], object]] = [
             lambda made: made.lag(made["dig"].end, made["pour"].start, at_most=3),
             lambda made: made.activity("late", 1, due=3), lambda made: made.absence(made.resources[0], 1),
-            lambda made: made.lag(made.start, made["dig"].end, at_least=0)]
+            lambda made: made.lag(made.start, made["pour"].end, at_least=0),
+            lambda made: made.lag(made.start, made["dig"].end, at_least=0, at_most=0)]
         for change in changes:
             hall = psmax.Project.read(HALL)
             change(hall)

@@ -22,6 +22,7 @@ class Format:
     is_like: Callable[[str], bool]
     read: Callable[[str, Parts], None]
     write: Callable[[Parts], str]
+    has_hours: bool = False  # of resources, of their own
 
 
 def read_mspdi(text: str, project: Parts) -> None:
@@ -46,9 +47,9 @@ def write_xer(project: Parts) -> str:
 
 # In the order in which a text is looked at.
 FORMATS = {one.name: one for one in (
-    Format("json", (json_text.SUFFIX,), json_text.is_like, json_text.read, json_text.write),
-    Format("mspdi", (mspdi_sign.SUFFIX,), mspdi_sign.is_like, read_mspdi, write_mspdi),
-    Format("xer", (xer_sign.SUFFIX,), xer_sign.is_like, read_xer, write_xer),
+    Format("json", (json_text.SUFFIX,), json_text.is_like, json_text.read, json_text.write, True),
+    Format("mspdi", (mspdi_sign.SUFFIX,), mspdi_sign.is_like, read_mspdi, write_mspdi, True),
+    Format("xer", (xer_sign.SUFFIX,), xer_sign.is_like, read_xer, write_xer, True),
     Format("sm", (sm.SUFFIX,), sm.is_like, sm.read, sm.write),
     Format("open-shop", (), taillard.is_like_open_shop, taillard.read_open_shop, taillard.write_open_shop),
     Format("taillard", (), taillard.is_like_job_shop, taillard.read_job_shop, taillard.write_job_shop),

@@ -3,6 +3,7 @@ import datetime
 import json
 from collections.abc import Mapping
 
+from ..crew_hours import Hours, is_within, read_hours
 from ..errors import BadInput
 from ..letters import short
 from ..model import Activity, Lag, Parts, Point, Resource
@@ -12,8 +13,8 @@ SUFFIX = ".json"
 KIND = "psmax-project 1"  # what the key `format` says
 ENDS = ("start", "end")
 KEYS: dict[str, tuple[set[str], set[str]]] = {  # of each kind of object: those that it must have, and those that it may have
-    "the project": ({"format", "activities"}, {"name", "resources", "lags", "absences", "work time"}),
-    "a resource": ({"name", "capacity"}, set()),
+    "the project": ({"format", "activities"}, {"name", "resources", "lags", "absences", "work time", "status"}),
+    "a resource": ({"name", "capacity"}, {"hours"}),
     "an activity": ({"name", "duration"}, {"demands", "due"}),
     "a lag": ({"from", "to"}, {"at least", "at most"}),
     "an absence": ({"resource", "from"}, {"to", "units"}),
@@ -36,6 +37,8 @@ def read(text: str, project: Parts) -> None:
     for one in objects(told, "resources", "a resource"):
         made = project.resource(named(one["name"], "the name of a resource"), integer(one["capacity"], "a capacity"))
         resources[made.name] = made
+        if "hours" in one:
+            project.hours[made] = hours(one["hours"], made.name)
     for one in objects(told, "activities", "an activity"):
         read_activity(one, project, resources)
     for one in objects(told, "lags", "a lag"):
@@ -46,6 +49,8 @@ def read(text: str, project: Parts) -> None:
         project.absence(resource(one["resource"], resources), integer(one["from"], "an absence's `from`"), until, units)
     if "work time" in told:
         project.work_time = work_time(checked(told["work time"], "the work time"))
+    project.status = integer(told["status"], "'status'") if "status" in told else None
+    must_have_hours(project)
 
 
 def parsed(text: str) -> object:
@@ -114,6 +119,26 @@ def resource(name: object, resources: Mapping[str, Resource]) -> Resource:
     return resources[name]
 
 
+def hours(value: object, name: str) -> Hours:
+    try:
+        return read_hours(named(value, f"the hours of {short(name)}"))
+    except ValueError as fault:
+        raise BadInput(f"the hours of {short(name)}: {fault}") from None
+
+
+def must_have_hours(project: Parts) -> None:
+    """A project that has those of its resources."""
+    if project.hours and project.work_time is None:
+        raise BadInput("hours of a resource need a work time")
+    for one, own in project.hours.items():
+        if project.work_time is not None and not is_within(own, project.work_time.calendar()):
+            raise BadInput(f"the hours of {short(one.name)} go beyond the work time")
+    try:
+        project.crews_off()
+    except ValueError as fault:
+        raise BadInput(f"hours of a resource: {fault}") from None
+
+
 def point(value: object, project: Parts) -> Point:
     """The start or the end of an activity, or of the project where there is no name."""
     if not isinstance(value, list) or len(value) != 2 or value[1] not in ENDS:
@@ -153,7 +178,9 @@ def write(project: Parts) -> str:
         time = {key: value for key, value in vars(project.work_time).items() if value}
         told["work time"] = time | ({"holidays": [f"{day}" for day in project.work_time.free_days]}
                                     if project.work_time.holidays else {})
-    told["resources"] = [{"name": one.name, "capacity": one.capacity} for one in project.resources]
+    told |= {"status": project.status} if project.status and project.hours else {}
+    told["resources"] = [{"name": one.name, "capacity": one.capacity}
+                         | ({"hours": project.hours[one].text} if one in project.hours else {}) for one in project.resources]
     told["activities"] = [activity_object(one) for one in project.activities]
     told["lags"] = [lag_object(one, project) for one in project.lags]
     if project.absences:

@@ -7,16 +7,18 @@ from math import gcd
 from xml.etree.ElementTree import Element
 
 from ..calendars import BEYOND, Calendar
+from ..crew_hours import Hours
 from ..dates import read_shift
 from ..errors import BadInput
 from ..letters import printable, short
 from ..model import Parts
 from ..work_time import WorkTime
-from .faults import Gathering
 from .mspdi_calendar import base_calendar, by_uid, holidays, hours, is_like_project
+from .mspdi_lags import WHOLE, read_entries
 from .mspdi_limits import Limits, due_dates
 from .mspdi_outline import Outline, is_set
-from .mspdi_resources import Needs
+from .mspdi_resources import Needs, crew_hours
+from .tool_file import Gathering, Link, must_fit
 from .xml_tree import parsed, text_of
 
 SPACE = "http://schemas.microsoft.com/project"
@@ -26,17 +28,6 @@ ELAPSED = {f"{kind + more}" for kind in (4, 6, 8, 10, 12, 20) for more in (0, 32
 SHARES = {"19", "51"}  # lags that are a part of a duration
 TENTHS = 10  # of a minute, in which lags are told
 FIRST_YEAR, LAST_YEAR = 1900, 2200  # of dates
-
-
-@dataclass(frozen=True)
-class Link:
-    """From the start or end of one task with work to the start or end of another pass so many minutes of work at least."""
-
-    before: str
-    after: str
-    from_end: bool
-    to_end: bool
-    minutes: int
 
 
 @dataclass
@@ -79,13 +70,31 @@ class Document(Gathering):
         return found
 
     @cached_property
+    def most(self) -> list[Link]:
+        """The maximum lags of the field that MSPDI has for none."""
+        found: list[Link] = []
+        for uid, task in self.tasks.items():
+            with self.kept():
+                for before, from_end, to_end, minutes in read_entries(self.root, task):
+                    if before not in self.tasks and before != f"{WHOLE}":
+                        raise BadInput(f"{self.called(uid)}: a maximum lag from {before}, which is no task with work")
+                    found.append(Link(before, uid, from_end, to_end, minutes))
+        return found
+
+    @cached_property
+    def crews(self) -> dict[str, Hours]:
+        return crew_hours(self)
+
+    @cached_property
     def minutes(self) -> int:
-        """How long a period is: the longest that divides all lengths, the hours of work, and what lies before tasks that are
-        scheduled by hand and before the start of the project."""
-        parts = read_shift(self.hours[1])
-        now = 60 * self.first.hour + self.first.minute
-        lengths = [length for begins, ends in parts for length in (ends - begins, now - begins if begins < now < ends else 0)]
-        lengths += [*self.durations.values(), *(abs(link.minutes) for link in self.links), *self.by_hand.values()]
+        """How long a period is: the longest that divides all lengths, the hours of work, also of resources, and what lies
+        before tasks that are scheduled by hand and before the start of the project."""
+        parts, begun = read_shift(self.hours[1]), 60 * self.first.hour + self.first.minute
+        marks = {begun, *(mark for hours in self.crews.values() for mark in hours.marks())}
+        lengths = [length for begins, ends in parts
+                   for length in (ends - begins, *(mark - begins for mark in marks if begins < mark < ends))]
+        lengths += [*self.durations.values(), *(abs(link.minutes) for link in [*self.links, *self.most]),
+                    *self.by_hand.values()]
         return gcd(*lengths)
 
     @cached_property
@@ -243,5 +252,12 @@ def read(text: str, project: Parts) -> None:
         point = own[link.before].end if link.from_end else own[link.before].start
         project.lag(point, own[link.after].end if link.to_end else own[link.after].start,
                     at_least=link.minutes // document.minutes)
+    for link in document.most:
+        point = own[link.after].end if link.to_end else own[link.after].start
+        before = project.start if link.before == f"{WHOLE}" else (
+            own[link.before].end if link.from_end else own[link.before].start)
+        project.lag(before, point, at_most=link.minutes // document.minutes)
     Limits(document, project, own).add()
+    project.groups = document.outline.groups()
+    must_fit(project, document, lambda activity: f"task '{short(activity.name)}'")
     document.tell()

@@ -1,21 +1,32 @@
 """The base calendar of an MSPDI file: its days, hours and holidays."""
 import datetime
 import re
-from collections.abc import Collection
+from collections.abc import Collection, Sequence
 from xml.etree.ElementTree import Element, SubElement
 
+from ..crew_hours import WEEK, Span
 from ..dates import read_shift, read_workdays
 from ..errors import BadInput
 from ..letters import short
+from .tool_file import USUAL
 from .xml_tree import text_of
 
 NAMES = ("mon", "tue", "wed", "thu", "fri", "sat", "sun")
 SUNDAY = 1  # the kind of day; Saturday is 7, and 0 an exception
+BASE = "1"  # the UID of the calendar of a project that is written
 MOST_HOLIDAYS = 10_000
-USUAL = "08:00-12:00,13:00-17:00"  # where nothing says the hours
 HOURS = re.compile(r"(\d\d):(\d\d):00")
 
-Span = tuple[str, str]  # hours of work, as HH:MM
+
+def of_resource(project: Element, calendar: Element) -> list[list[Span]]:
+    """The hours of Monday to Sunday of a calendar with the days off of the project's."""
+    if holidays(project, calendar) != holidays(project, base_calendar(project)):
+        raise BadInput("other days off than the project's; they may stand in its availability")
+    found = spans(project, calendar)
+    try:
+        return [[*read_shift(",".join(found[day]))] if day in found else [] for day in range(WEEK)]
+    except ValueError as fault:
+        raise BadInput(f"{fault}") from None
 
 
 def base_calendar(project: Element) -> Element | None:
@@ -126,23 +137,41 @@ def day_of(text: str | None) -> datetime.date:
         raise BadInput(f"a date of the base calendar is not such as 2026-04-03T00:00:00: '{short(text or '')}'") from None
 
 
-def add_calendar(project: Element, workdays: str, shift: str, free: Collection[datetime.date]) -> None:
-    calendar = SubElement(SubElement(project, "Calendars"), "Calendar")
-    for name, text in (("UID", "1"), ("Name", "Standard"), ("IsBaseCalendar", "1"), ("BaseCalendarUID", "-1")):
-        SubElement(calendar, name).text = text
-    week, work = SubElement(calendar, "WeekDays"), read_workdays(workdays)
-    for kind in range(1, 8):
-        day = SubElement(week, "WeekDay")
-        has_work = (kind - SUNDAY - 1) % 7 in work
-        SubElement(day, "DayType").text, SubElement(day, "DayWorking").text = f"{kind}", f"{int(has_work)}"
-        times = SubElement(day, "WorkingTimes") if has_work else None
-        for span in shift.split(",") if times is not None else []:
-            time = SubElement(times, "WorkingTime") if times is not None else day
-            for name, text in zip(("FromTime", "ToTime"), span.split("-")):
-                SubElement(time, name).text = f"{text.replace('24:00', '00:00')}:00"
+def add_calendar(project: Element, workdays: str, shift: str, free: Collection[datetime.date]) -> Element:
+    """The calendar of the project, and the list of calendars that it is the first of."""
+    calendars = SubElement(project, "Calendars")
+    calendar = add_head(calendars, BASE, "Standard", "1", "-1")
+    work = read_workdays(workdays)
+    add_week(calendar, [read_shift(shift) if day in work else () for day in range(WEEK)])
     exceptions = SubElement(calendar, "Exceptions")
     for one in sorted(free):
         exception = SubElement(exceptions, "Exception")
         period = SubElement(exception, "TimePeriod")
         SubElement(period, "FromDate").text, SubElement(period, "ToDate").text = f"{one}T00:00:00", f"{one}T23:59:00"
         SubElement(exception, "DayWorking").text = "0"
+    return calendars
+
+
+def add_resource_calendar(calendars: Element, uid: str, name: str, hours: Sequence[Sequence[Span]]) -> None:
+    """One with hours of its own, and with the days off of the project's, on which it is based."""
+    add_week(add_head(calendars, uid, name, "0", BASE), hours)
+
+
+def add_head(calendars: Element, uid: str, name: str, base: str, based_on: str) -> Element:
+    calendar = SubElement(calendars, "Calendar")
+    for tag, text in (("UID", uid), ("Name", name), ("IsBaseCalendar", base), ("BaseCalendarUID", based_on)):
+        SubElement(calendar, tag).text = text
+    return calendar
+
+
+def add_week(calendar: Element, hours: Sequence[Sequence[Span]]) -> None:
+    """The hours of Monday to Sunday."""
+    week = SubElement(calendar, "WeekDays")
+    for kind in range(SUNDAY, SUNDAY + WEEK):
+        day, spans = SubElement(week, "WeekDay"), hours[(kind - SUNDAY - 1) % WEEK]
+        SubElement(day, "DayType").text, SubElement(day, "DayWorking").text = f"{kind}", f"{int(bool(spans))}"
+        times = SubElement(day, "WorkingTimes") if spans else day
+        for span in spans:
+            time = SubElement(times, "WorkingTime")
+            for name, minutes in zip(("FromTime", "ToTime"), span):
+                SubElement(time, name).text = f"{minutes // 60 % 24:02}:{minutes % 60:02}:00"

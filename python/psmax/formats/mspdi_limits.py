@@ -59,6 +59,7 @@ class Limits:
     begun: set[str] = field(default_factory=set)
 
     def add(self) -> None:
+        self.project.status = self.status or None
         for uid, task in self.document.tasks.items():
             with self.document.kept():
                 self.limit(uid, task)
@@ -82,6 +83,7 @@ class Limits:
         if begun is not None:
             self.begun.add(uid)
             self.stays[uid] = document.calendar.from_on(document.not_before_project(begun, uid))
+            self.project.started[activity.number] = self.stays[uid]
         elif uid in document.by_hand:
             self.stays[uid] = document.by_hand[uid] // document.minutes
         if uid in self.stays:

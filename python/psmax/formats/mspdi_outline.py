@@ -6,10 +6,41 @@ from xml.etree.ElementTree import Element
 
 from ..errors import BadInput
 from ..letters import printable, short
+from ..model import Activity, Group, Parts
 from ..project import MOST_ACTIVITIES
 from .xml_tree import text_of
 
 WHOLE = "0"  # the UID of the task that stands for the whole project
+
+
+@dataclass(frozen=True)
+class OutlineRow:
+    """A row of a project that is written, with its place from 1 on and its number, such as 2.1."""
+
+    one: Activity | Group
+    place: int
+    number: str
+
+
+def outline_of(project: Parts) -> list[OutlineRow]:
+    """The activities, each below its groups."""
+    found, open_ones, numbers = list[OutlineRow](), list[Group](), [0]
+    groups = [one for one in project.groups if one.activities]
+
+    def put(one: Activity | Group) -> None:
+        numbers[-1] += 1
+        found.append(OutlineRow(one, len(found) + 1, ".".join(map(str, numbers))))
+
+    for activity in project.activities:
+        while open_ones and activity.number not in open_ones[-1].activities:
+            open_ones.pop()
+            numbers.pop()
+        while groups and activity.number in groups[0].activities:
+            open_ones.append(groups.pop(0))
+            put(open_ones[-1])
+            numbers.append(0)
+        put(activity)
+    return found
 
 
 @dataclass
@@ -55,6 +86,12 @@ class Outline:
                 for one in open_ones:
                     found[one].append(uid)
         return found
+
+    def groups(self) -> list[Group]:
+        """The summaries with the tasks below them, by the numbers that these get."""
+        numbers = {uid: number for number, uid in enumerate(self.tasks, 1)}
+        return [Group(printable(text_of(self.all[uid], "Name") or f"task {uid}"), range(numbers[own[0]], numbers[own[-1]] + 1))
+                for uid, own in self.below.items() if own and uid != WHOLE]
 
     @cached_property
     def names(self) -> dict[str, str]:

@@ -8,11 +8,12 @@ from typing import TYPE_CHECKING
 from xml.etree.ElementTree import Element
 
 from ..calendars import Calendar
+from ..crew_hours import Hours, is_within, of_week
 from ..errors import BadInput
 from ..letters import printable, short
 from ..model import Parts, Resource
 from ..project import MOST_RESOURCES
-from .mspdi_calendar import is_like_project
+from .mspdi_calendar import by_uid, is_like_project, of_resource
 from .xml_tree import text_of
 
 if TYPE_CHECKING:
@@ -32,7 +33,9 @@ class Needs:
 
     def fill(self, project: Parts) -> None:
         """Adds the resources with their absences. Units are in percent where one is no whole number."""
-        found = self.resources()
+        found = work_resources(self.document.root)
+        if len(found) > MOST_RESOURCES:
+            raise BadInput(f"{len(found)} resources, and a project has at most {MOST_RESOURCES}")
         stretches = {uid: self.availability(one) for uid, one in found.items()}
         units = {uid: max(count for *_, count in stretches[uid]) for uid in found}
         wanted = self.assigned({*units})
@@ -43,29 +46,12 @@ class Needs:
             name = printable(text_of(one, "Name") or f"resource {uid}")
             name = name if all(name != other.name for other in project.resources) else f"{name} ({printable(uid)})"
             own[uid] = project.resource(name, round(units[uid] * scale))
+            project.hours |= {own[uid]: self.document.crews[uid]} if uid in self.document.crews else {}
             for begins, ends, away in absences(stretches[uid], units[uid], self.document.calendar):
                 project.absence(own[uid], begins, ends, round(away * scale))
         for task, resource, count in wanted:
             row = self.of.setdefault(task, {})
             row[own[resource]] = row.get(own[resource], 0) + round(count * scale)
-
-    def resources(self) -> dict[str, Element]:
-        found: dict[str, Element] = {}
-        for one in self.document.root.findall("Resources/Resource"):
-            uid = text_of(one, "UID") or ""
-            if text_of(one, "Type") not in ("0", "2") and uid not in ("0", "") and text_of(one, "Name"):
-                found[uid] = one
-                with self.document.kept():
-                    self.must_be_plain(one)
-        if len(found) > MOST_RESOURCES:
-            raise BadInput(f"{len(found)} resources, and a project has at most {MOST_RESOURCES}")
-        return found
-
-    def must_be_plain(self, resource: Element) -> None:
-        """Its calendar has the days, the hours and the days off of the project's, also by the one that it is based on."""
-        if not is_like_project(self.document.root, text_of(resource, "CalendarUID")):
-            raise BadInput(f"resource '{short(text_of(resource, 'Name') or '')}' has days or hours of its own, and psmax keeps "
-                           "the project's calendar alone; days off may stand in its availability")
 
     def availability(self, resource: Element) -> list[Stretch]:
         """How many units there are when; between the periods there are none."""
@@ -90,6 +76,37 @@ class Needs:
                         raise BadInput(f"{document.outline.called(task)}: an assignment, and no work of its own")
                     found.append((task, resource, units_of(one, "Units", document.outline.called(task))))
         return found
+
+
+def work_resources(root: Element) -> dict[str, Element]:
+    """Those that do work, and have a name."""
+    named = {text_of(one, "UID") or "": one for one in root.findall("Resources/Resource")
+             if text_of(one, "Type") not in ("0", "2") and text_of(one, "Name")}
+    return {uid: one for uid, one in named.items() if uid not in ("0", "")}
+
+
+def crew_hours(document: "Document") -> dict[str, Hours]:
+    """Of each resource whose calendar has other hours than the project's."""
+    found: dict[str, Hours] = {}
+    for uid, one in work_resources(document.root).items():
+        with document.kept():
+            calendar = by_uid(document.root, text_of(one, "CalendarUID"))
+            if calendar is not None and not is_like_project(document.root, text_of(calendar, "UID")):
+                try:
+                    found[uid] = hours_in(document, calendar)
+                except BadInput as fault:
+                    raise BadInput(f"resource '{short(text_of(one, 'Name') or '')}' has days or hours of its own: "
+                                   f"{fault}") from None
+    return found
+
+
+def hours_in(document: "Document", calendar: Element) -> Hours:
+    found = of_week(of_resource(document.root, calendar))
+    if found is None:
+        raise BadInput("its days have different hours")
+    if not is_within(found, document.clock):
+        raise BadInput("they go beyond those of the project, at which all work is")
+    return found
 
 
 def units_of(one: Element, name: str, called: str) -> Fraction:

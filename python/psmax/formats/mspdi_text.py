@@ -1,15 +1,20 @@
 """A project as Microsoft Project's XML (MSPDI), and a schedule in such a file that is there already."""
 import datetime
+from collections.abc import Mapping, Sequence
 from xml.etree.ElementTree import Element, SubElement
 
 from ..answer import Schedule
-from ..calendars import Calendar
-from ..dates import read_shift
+from ..crew_hours import by_day
+from ..dates import read_shift, read_workdays
 from ..errors import BadInput
-from ..model import Activity, Lag, Parts
-from ..work_time import minutes_of
+from ..letters import short
+from ..model import Absence, Activity, Group, Lag, Parts, Resource
+from ..project import least_starts
 from .mspdi import ENDS, SPACE, TENTHS, Document
-from .mspdi_calendar import add_calendar
+from .mspdi_calendar import BASE, add_calendar, add_resource_calendar
+from .mspdi_lags import FIELD, Ties, add_field, entries, note, ties_of
+from .mspdi_outline import OutlineRow, outline_of
+from .tool_file import Dates, Gathering, dates_of
 from .xml_tree import parsed, put, text_of, written
 
 # Of what stands in a task; names between them are none that come before one of these.
@@ -17,38 +22,55 @@ ORDER = ("Start", "Finish", "Duration", "ManualStart", "DurationFormat", "Work",
          "ActualStart", "RemainingDuration", "ConstraintType", "CalendarUID", "ConstraintDate", "Deadline", "LevelAssignments",
          "LevelingCanSplit", "LevelingDelay", "LevelingDelayFormat", "PreLeveledStart", "PredecessorLink", "Baseline")
 DAYS, ELAPSED_DAYS = "7", "8"  # how lengths are shown
-REFUSED = ("MSPDI has no maximum lags between tasks, no absences and one constraint of a task; write this project as JSON")
+# Of a constraint, by whether it is one of the end, has a least time and a greatest one.
+CONSTRAINTS = {(False, True, True): "2", (True, True, True): "3", (False, True, False): "4", (False, False, True): "5",
+               (True, True, False): "6", (True, False, True): "7"}
+WORK = "1"  # the type of a resource that does work
+EVER = ("1984-01-01T00:00:00", "2049-12-31T23:59:00")  # from when and until when something is there that always is
+PERCENT = 100
 
 
 def write(project: Parts) -> str:
-    """A project with a work time that has hours. Each lag is a link or a constraint."""
-    time = project.work_time
-    if time is None or time.shift is None:
-        raise BadInput("MSPDI needs a work time with hours, such as a shift of 08:00-12:00,13:00-17:00")
-    if project.absences:
-        raise BadInput(REFUSED)
-    calendar, minutes = time.calendar(), minutes_of(time.period)
-    root = Element("Project", {"xmlns": SPACE})
-    texts = {"Name": project.name, "Title": project.name, "StartDate": stamp(calendar.begins(0)), "CalendarUID": "1",
-             "MinutesPerDay": f"{sum(ends - begins for begins, ends in read_shift(time.shift))}"}
+    """A project with dates. What MSPDI can't say is told at once."""
+    dates, faults = dates_of(project.work_time, "MSPDI"), Gathering()
+    root, ties = Element("Project", {"xmlns": SPACE}), ties_of(project, faults)
+    parts = read_shift(dates.time.shift or "")
+    texts = {"Name": project.name, "Title": project.name, "StartDate": stamp(dates.begins(0)), "CalendarUID": BASE,
+             "MinutesPerDay": f"{sum(ends - begins for begins, ends in parts)}",
+             "StatusDate": "" if project.status is None else stamp(dates.begins(project.status))}
     add(root, {name: text for name, text in texts.items() if text})
-    add_calendar(root, time.workdays or "mon-sun", time.shift, time.free_days)
-    tasks = SubElement(root, "Tasks")
-    for activity in project.activities:
-        add_task(SubElement(tasks, "Task"), project, activity, calendar, minutes)
-    resources, assignments = SubElement(root, "Resources"), SubElement(root, "Assignments")
-    for one in project.resources:
-        add(SubElement(resources, "Resource"), {"UID": f"{one.number + 1}", "ID": f"{one.number + 1}", "Name": one.name,
-                                                "Type": "1", "MaxUnits": f"{one.capacity}"})
-    pairs = [(activity.number, one.number + 1, units) for activity in project.activities
-             for one, units in activity.demands.items() if units]
-    for uid, (task, resource, units) in enumerate(pairs, 1):
-        add(SubElement(assignments, "Assignment"), {"UID": f"{uid}", "TaskUID": f"{task}", "ResourceUID": f"{resource}",
-                                                    "Units": f"{units}"})
+    add_field(root, ties)
+    workdays = dates.time.workdays or "mon-sun"
+    calendars = add_calendar(root, workdays, dates.time.shift or "", dates.time.free_days)
+    for one, hours in project.hours.items():
+        add_resource_calendar(calendars, calendar_uid(one), one.name, by_day(hours, read_workdays(workdays)))
+    tasks, times = SubElement(root, "Tasks"), soonest(project, dates)
+    for row in outline_of(project):
+        with faults.kept():
+            add_row(SubElement(tasks, "Task"), row, project, ties, dates)
+            put_times(tasks[-1], row, times)
+    faults.tell()
+    add_resources(root, project, dates)
     return written(root)
 
 
-def add(parent: Element, texts: dict[str, str]) -> None:
+def soonest(project: Parts, dates: Dates) -> list[tuple[str, str]]:
+    """When each activity begins and ends by its lags alone, until it is planned."""
+    numbers = project.numbers()
+    starts = least_starts(numbers) or [0] * (numbers.end + 1)
+    pairs = [(start, start + length) for start, length in zip(starts[1:-1], numbers.durations[1:-1])]
+    return [(stamp(dates.begins(start)), stamp(dates.ended(end) if start < end else dates.begins(start)))
+            for start, end in pairs]
+
+
+def put_times(task: Element, row: OutlineRow, times: Sequence[tuple[str, str]]) -> None:
+    """A summary goes from the first start below it to the last end."""
+    own = [times[row.one.number - 1]] if isinstance(row.one, Activity) else [times[i - 1] for i in row.one.activities]
+    put(task, "Start", min(begins for begins, _ in own), ORDER)
+    put(task, "Finish", max(ends for _, ends in own), ORDER)
+
+
+def add(parent: Element, texts: Mapping[str, str]) -> None:
     for name, text in texts.items():
         SubElement(parent, name).text = text
 
@@ -61,40 +83,88 @@ def length(minutes: int) -> str:
     return f"PT{minutes // 60}H{minutes % 60}M0S"
 
 
-def add_task(task: Element, project: Parts, activity: Activity, calendar: Calendar, minutes: int) -> None:
-    add(task, {"UID": f"{activity.number}", "ID": f"{activity.number}", "Name": activity.name,
-               "Duration": length(activity.duration * minutes), "DurationFormat": DAYS,
-               "Milestone": f"{int(activity.duration == 0)}", "Summary": "0"})
-    own = [lag for lag in project.lags if lag.after.activity is activity]
-    limits = [lag for lag in own if lag.before == project.start]
-    if len(limits) > 1 or any(lag.after == project.end or lag.before == project.end for lag in project.lags):
-        raise BadInput(REFUSED)
-    for lag in limits:
-        add(task, constraint(lag, calendar))
-    if activity.due is not None:
-        add(task, {"Deadline": stamp(calendar.ended(activity.due))})
-    for lag in own:
-        if lag.before != project.start:
-            add(SubElement(task, "PredecessorLink"), link(lag, minutes))
+def calendar_uid(resource: Resource) -> str:
+    return f"{resource.number + 2}"
 
 
-def constraint(lag: Lag, calendar: Calendar) -> dict[str, str]:
+def add_row(task: Element, row: OutlineRow, project: Parts, ties: Ties, dates: Dates) -> None:
+    """An activity, or a summary, whose UIDs come behind those."""
+    one, number = row.one, row.one.number if isinstance(row.one, Activity) else len(project.activities) + row.place
+    minutes = one.duration * dates.minutes if isinstance(one, Activity) else 0
+    add(task, {"UID": f"{number}", "ID": f"{row.place}", "Name": one.name, "WBS": row.number, "OutlineNumber": row.number,
+               "OutlineLevel": f"{row.number.count('.') + 1}"})
+    if isinstance(one, Group):
+        add(task, {"Summary": "1"})
+        return
+    add(task, {"Duration": length(minutes), "DurationFormat": DAYS, "Milestone": f"{int(minutes == 0)}", "Summary": "0"})
+    add(task, done(project, one, dates))
+    for lag in ties.limits.get(number, []):
+        add(task, constraint(lag, dates))
+    if one.due is not None:
+        add(task, {"Deadline": stamp(dates.ended(one.due))})
+    most = ties.most.get(number, [])
+    if most:
+        add(task, {"Notes": note(project, most, dates.minutes)})
+    for lag in ties.links.get(number, []):
+        add(SubElement(task, "PredecessorLink"), link(lag, dates.minutes))
+    if most:
+        add(SubElement(task, "ExtendedAttribute"),
+            {"FieldID": FIELD, "Value": entries(project, one, most, dates.minutes)})
+
+
+def done(project: Parts, activity: Activity, dates: Dates) -> dict[str, str]:
+    """How far an activity has come."""
+    begun, now = project.started.get(activity.number), project.status or 0
+    if begun is None:
+        return {}
+    ends = begun + activity.duration
+    left = max(0, ends - now)
+    share = PERCENT if not left else min(PERCENT - 1, PERCENT * (now - begun) // activity.duration)
+    texts = {"PercentComplete": f"{share}", "ActualStart": stamp(dates.begins(begun))}
+    texts |= {} if left else {"ActualFinish": stamp(dates.ended(ends) if activity.duration else dates.begins(begun))}
+    return texts | {"RemainingDuration": length(left * dates.minutes)}
+
+
+def constraint(lag: Lag, dates: Dates) -> dict[str, str]:
     """The constraint of a task that a lag from the project's start is."""
-    kinds = {(False, True, True): "2", (False, True, False): "4", (True, False, True): "7"}
-    has = (lag.after.is_end, lag.at_least is not None, lag.at_most is not None)
+    is_least, is_most = lag.at_least is not None, lag.at_most is not None
+    kind = CONSTRAINTS[lag.after.is_end, is_least, is_most]
     time = lag.at_most if lag.at_least is None else lag.at_least
-    if has not in kinds or time is None or time < lag.after.is_end or has[1] and has[2] and lag.at_least != lag.at_most:
-        raise BadInput(REFUSED)
-    moment = calendar.ended(time) if lag.after.is_end else calendar.begins(time)
-    return {"ConstraintType": kinds[has], "ConstraintDate": stamp(moment)}
+    if time is None or time < lag.after.is_end:
+        raise BadInput(f"activity '{short(lag.after.activity.name)}': MSPDI has no date before the project starts")
+    return {"ConstraintType": kind, "ConstraintDate": stamp(dates.ended(time) if lag.after.is_end else dates.begins(time))}
 
 
 def link(lag: Lag, minutes: int) -> dict[str, str]:
-    if lag.at_most is not None or lag.at_least is None:
-        raise BadInput(REFUSED)
     kind = next(kind for kind, ends in ENDS.items() if ends == (lag.before.is_end, lag.after.is_end))
-    return {"PredecessorUID": f"{lag.before.activity.number}", "Type": kind, "LinkLag": f"{lag.at_least * minutes * TENTHS}",
-            "LagFormat": DAYS}
+    return {"PredecessorUID": f"{lag.before.activity.number}", "Type": kind,
+            "LinkLag": f"{(lag.at_least or 0) * minutes * TENTHS}", "LagFormat": DAYS}
+
+
+def add_resources(root: Element, project: Parts, dates: Dates) -> None:
+    """With what is there when, and what each activity needs of them."""
+    resources, assignments = SubElement(root, "Resources"), SubElement(root, "Assignments")
+    for one in project.resources:
+        uid, made = f"{one.number + 1}", SubElement(resources, "Resource")
+        add(made, {"UID": uid, "ID": uid, "Name": one.name, "Type": WORK, "MaxUnits": f"{one.capacity}"})
+        add(made, {"CalendarUID": calendar_uid(one)} if one in project.hours else {})
+        add_availability(made, one, [away for away in project.absences if away.resource is one], dates)
+    pairs = [(activity.number, one.number + 1, units) for activity in project.activities
+             for one, units in activity.demands.items() if units]
+    for number, (task, resource, units) in enumerate(pairs, 1):
+        add(SubElement(assignments, "Assignment"), {"UID": f"{number}", "TaskUID": f"{task}", "ResourceUID": f"{resource}",
+                                                    "Units": f"{units}"})
+
+
+def add_availability(resource: Element, one: Resource, absences: Sequence[Absence], dates: Dates) -> None:
+    """How many units there are from one time to the next, where some are away."""
+    times = sorted({time for away in absences for time in (away.begins, away.ends) if time})
+    periods = SubElement(resource, "AvailabilityPeriods") if absences else resource
+    for begins, ends in zip([0, *times], [*times, None]) if absences else ():
+        away = sum(one.units for one in absences if one.begins <= begins and (one.ends is None or begins < one.ends))
+        add(SubElement(periods, "AvailabilityPeriod"), {
+            "AvailableFrom": stamp(dates.begins(begins)) if begins else EVER[0],
+            "AvailableTo": EVER[1] if ends is None else stamp(dates.begins(ends)), "AvailableUnits": f"{one.capacity - away}"})
 
 
 def replanned(text: str, schedule: Schedule) -> str:

@@ -1,7 +1,8 @@
 """A .xer file of Primavera P6 as a project."""
 from ..errors import BadInput
 from ..model import Parts
-from .xer_document import Document, code
+from .tool_file import must_fit
+from .xer_document import Document, called, code
 from .xer_limits import Progress
 from .xer_resources import Needs
 from .xer_tables import read_tables
@@ -21,7 +22,7 @@ def fill(document: Document, project: Parts) -> None:
     project.name, project.work_time = document.title, progress.work_time
     with document.kept():
         document.must_count_lags()
-    needs = Needs(document, progress.calendar)
+    needs = Needs(document, progress.calendar, progress.crews)
     with document.kept():
         needs.fill(project)
     due = progress.due_dates()
@@ -29,3 +30,6 @@ def fill(document: Document, project: Parts) -> None:
         made = project.activity(document.names[uid], progress.duration(uid), needs.of.get(uid), due.get(uid))
         project.ids[made.number] = code(row)
     progress.fill(project)
+    project.groups = document.groups()
+    rows = dict(enumerate(document.activities.values(), 1))
+    must_fit(project, document, lambda activity: called(rows[activity.number]))

@@ -3,9 +3,10 @@ as lists in brackets, `(0||NAME(KEY|VALUE)(LISTS))`, in which days count from Su
 1899."""
 import datetime
 import re
-from collections.abc import Collection, Iterator, Mapping
+from collections.abc import Collection, Iterator, Mapping, Sequence
 from dataclasses import dataclass
 
+from ..crew_hours import Span
 from ..dates import read_shift, read_workdays
 from ..errors import BadInput
 from ..letters import short
@@ -145,9 +146,20 @@ def date_of(text: str, called: str) -> datetime.date:
 
 def calendar_data(workdays: str, shift: str, free: Collection[datetime.date]) -> str:
     """The cell of a calendar."""
-    work, parts = read_workdays(workdays), [one.split("-") for one in shift.split(",")]
-    hours = "".join(f"(0||{place}(s|{begins}|f|{ends.replace('24:00', '00:00')})())"
-                    for place, (begins, ends) in enumerate(parts))
-    days = "".join(f"(0||{day}()({hours if (day - SUNDAY - 1) % WEEK in work else ''}))" for day in range(1, WEEK + 1))
+    work, parts = read_workdays(workdays), read_shift(shift)
+    return data_of([parts if day in work else () for day in range(WEEK)], free)
+
+
+def data_of(week: Sequence[Sequence[Span]], free: Collection[datetime.date]) -> str:
+    """The same by the hours of Monday to Sunday."""
+    days = "".join(f"(0||{day}()({spans_text(week[(day - SUNDAY - 1) % WEEK])}))" for day in range(SUNDAY, SUNDAY + WEEK))
     off = "".join(f"(0||{place}(d|{(day - ZERO).days})())" for place, day in enumerate(sorted(free)))
     return f"(0||CalendarData()((0||DaysOfWeek()({days}))(0||Exceptions()({off}))))"
+
+
+def spans_text(spans: Sequence[Span]) -> str:
+    return "".join(f"(0||{place}(s|{clock(begins)}|f|{clock(ends)})())" for place, (begins, ends) in enumerate(spans))
+
+
+def clock(minutes: int) -> str:
+    return f"{minutes // 60 % 24:02}:{minutes % 60:02}"

@@ -10,9 +10,10 @@ from ..calendars import Calendar
 from ..dates import read_shift
 from ..errors import BadInput
 from ..letters import printable, short
+from ..model import Group
 from ..project import MOST_ACTIVITIES
 from ..work_time import WorkTime
-from .faults import Gathering
+from .tool_file import Gathering, Link
 from .mspdi import calendar_of
 from .xer_calendar import MOST_SIGNS, Hours, base_first, hours_of
 from .xer_tables import Row, cell, minutes, moment
@@ -24,17 +25,6 @@ SPANNING = {"TT_LOE", "TT_WBS"}  # which take as long as others
 COMPLETE = "TK_Complete"
 OF_PREDECESSOR, OF_SUCCESSOR = "rcal_Predecessor", "rcal_Successor"  # whose calendar a lag counts in
 OF_PROJECT, OF_CLOCK = "rcal_ProjDefault", "rcal_24Hour"
-
-
-@dataclass(frozen=True)
-class Link:
-    """From the start or end of one activity to that of another pass so many minutes of work at least."""
-
-    before: str
-    after: str
-    from_end: bool
-    to_end: bool
-    minutes: int
 
 
 @dataclass
@@ -90,6 +80,19 @@ class Document(Gathering):
         """The name of the topmost row of the work breakdown, which is the project's."""
         tops = (cell(row, "wbs_name") for row in self.rows("PROJWBS") if cell(row, "proj_node_flag") == "Y")
         return printable(next(tops, cell(self.project, "proj_short_name")))
+
+    def groups(self) -> list[Group]:
+        """The rows of the work breakdown below the project, where their activities stand one after another."""
+        rows = {cell(row, "wbs_id"): row for row in self.rows("PROJWBS")}
+        inner = dict[str, list[int]]()
+        for number, row in enumerate(self.activities.values(), 1):
+            uid, seen = cell(row, "wbs_id"), set[str]()
+            while uid in rows and uid not in seen and cell(rows[uid], "proj_node_flag") != "Y":
+                inner.setdefault(uid, []).append(number)
+                seen.add(uid)
+                uid = cell(rows[uid], "parent_wbs_id")
+        return [Group(printable(cell(row, "wbs_name") or cell(row, "wbs_short_name")), range(inner[uid][0], inner[uid][-1] + 1))
+                for uid, row in rows.items() if uid in inner and inner[uid][-1] - inner[uid][0] == len(inner[uid]) - 1]
 
     def is_complete(self, uid: str) -> bool:
         return cell(self.activities[uid], "status_code") == COMPLETE
@@ -221,12 +224,12 @@ class Document(Gathering):
         workdays, shift, holidays = self.plain
         return WorkTime(self.first.isoformat(" ", "minutes"), period, workdays, holidays, shift)
 
-    def period(self, dates: list[datetime.datetime]) -> int:
-        """How many minutes: the most that divides all lengths, the hours of work, and the work before these dates."""
-        parts = read_shift(self.plain[1])
-        now = 60 * self.first.hour + self.first.minute
-        lengths = [length for begins, ends in parts
-                   for length in (ends - begins, now - begins if begins < now < ends else 0)]
+    def period(self, dates: list[datetime.datetime], marks: set[int]) -> int:
+        """How many minutes: the most that divides all lengths, the hours of work, the work before these dates, and that
+        before these minutes of the day, at which hours of resources change."""
+        marks = {*marks, 60 * self.first.hour + self.first.minute}
+        lengths = [length for begins, ends in read_shift(self.plain[1])
+                   for length in (ends - begins, *(mark - begins for mark in marks if begins < mark < ends))]
         lengths += [*self.remaining.values(), *(abs(link.minutes) for link in self.links)]
         return gcd(*lengths, *map(self.clock.from_on, dates))
 

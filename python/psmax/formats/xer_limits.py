@@ -5,13 +5,16 @@ from dataclasses import dataclass
 from functools import cached_property
 
 from ..calendars import Calendar
+from ..crew_hours import Hours
 from ..errors import BadInput
 from ..letters import short
 from ..model import Activity, Parts
 from ..work_time import WorkTime
 from .mspdi import calendar_of, period_of
 from .mspdi_limits import limit_of
-from .xer_document import Document, Link, called
+from .tool_file import Link
+from .xer_crews import crew_hours
+from .xer_document import Document, called
 from .xer_tables import cell, moment
 
 # The kinds of constraints as Microsoft Project counts them. As late as possible says nothing of when.
@@ -26,6 +29,11 @@ class Progress:
     """Minutes become periods here. What has started touches whole periods; all else is exact."""
 
     document: Document
+
+    @cached_property
+    def crews(self) -> dict[str, Hours]:
+        """The resources with hours of their own."""
+        return crew_hours(self.document)
 
     @cached_property
     def constraints(self) -> dict[str, list[tuple[str, datetime.datetime]]]:
@@ -50,7 +58,8 @@ class Progress:
     @cached_property
     def minutes(self) -> int:
         dates = [at for told in self.constraints.values() for _, at in told]
-        return self.document.period([self.document.data_date, *dates])
+        marks = {mark for hours in self.crews.values() for mark in hours.marks()}
+        return self.document.period([self.document.data_date, *dates], marks)
 
     @cached_property
     def work_time(self) -> WorkTime:
@@ -105,7 +114,7 @@ class Progress:
 
     def fill(self, project: Parts) -> None:
         """Adds the links, what has started, and the constraints."""
-        document = self.document
+        document, project.status = self.document, self.now or None
         own = {uid: project[name] for uid, name in document.names.items()}
         for link in document.links:
             if link.after in document.begun:
@@ -117,6 +126,7 @@ class Progress:
                             at_least=link.minutes // self.minutes)
         for uid, activity in own.items():
             if uid in document.begun:
+                project.started[activity.number] = self.start(uid)
                 project.lag(project.start, activity.start, at_least=self.start(uid), at_most=self.start(uid))
             elif self.now:
                 project.lag(project.start, activity.start, at_least=self.now)

@@ -1,18 +1,19 @@
 """What each activity of a .xer file needs, in units by time, and how many units there are when."""
+from collections.abc import Mapping
 from dataclasses import dataclass, field
 from fractions import Fraction
-from functools import cached_property
 
 from ..calendars import Calendar
+from ..crew_hours import Hours
 from ..errors import BadInput
-from ..letters import printable, short
+from ..letters import printable
 from ..model import Parts, Resource
 from ..project import MOST_RESOURCES
 from .mspdi_resources import Stretch, absences
+from .xer_crews import named, resources_of
 from .xer_document import Document, called
 from .xer_tables import HOUR, Row, cell, moment, number
 
-MATERIAL = "RT_Mat"
 SCALES = (1, 100, 10_000)  # units, in percent, and in hundredths of that
 NEAR = Fraction(1, 100)  # the share by which units and hours may differ, since both are rounded
 Want = tuple[str, str, Fraction]  # an activity, a resource and how many units
@@ -22,16 +23,12 @@ Want = tuple[str, str, Fraction]  # an activity, a resource and how many units
 class Needs:
     document: Document
     calendar: Calendar
+    hours: Mapping[str, Hours]
     of: dict[str, dict[Resource, int]] = field(default_factory=dict)
-
-    @cached_property
-    def resources(self) -> dict[str, Row]:
-        return {cell(row, "rsrc_id"): row for row in self.document.tables.get("RSRC", [])
-                if cell(row, "rsrc_type") != MATERIAL}
 
     def fill(self, project: Parts) -> None:
         """Adds the resources that something needs, with their absences."""
-        wanted, known = self.wanted(), self.resources
+        wanted, known = self.wanted(), resources_of(self.document)
         needed = {resource for _, resource, _ in wanted}
         used = [uid for uid in known if uid in needed]
         if len(used) > MOST_RESOURCES:
@@ -47,6 +44,7 @@ class Needs:
             name = name if all(name != other.name for other in project.resources) else f"{name} ({printable(uid)})"
             most = max((count for *_, count in there[uid]), default=Fraction(0))
             own[uid] = project.resource(name, int(most * scale))
+            project.hours |= {own[uid]: self.hours[uid]} if uid in self.hours else {}
             for begins, ends, away in absences(there[uid], most, self.calendar):
                 project.absence(own[uid], begins, ends, int(away * scale))
         for task, resource, count in wanted:
@@ -55,14 +53,15 @@ class Needs:
 
     def wanted(self) -> list[Want]:
         """What is complete needs nothing any more, and what takes no time nothing at all."""
-        document, known, found, spanning = self.document, self.resources, list[Want](), list[tuple[str, str]]()
+        document, found, spanning = self.document, list[Want](), list[tuple[str, str]]()
+        known = resources_of(document)
         for row in document.rows("TASKRSRC"):
             task, resource = cell(row, "task_id"), cell(row, "rsrc_id")
             if resource in known and task in document.spanning:
                 spanning.append((task, resource))
             elif resource in known and document.remaining.get(task):
                 with document.kept():
-                    units = self.units(task, resource, row)
+                    units = self.units(task, known[resource], row)
                     found += [(task, resource, units)] if units else []
         needed = {resource for _, resource, _ in found}
         for task, resource in spanning:
@@ -71,17 +70,15 @@ class Needs:
                                        "as others take, and activities here have a duration of their own")
         return found
 
-    def units(self, task: str, resource: str, row: Row) -> Fraction:
+    def units(self, task: str, resource: Row, row: Row) -> Fraction:
         """By hour, for all of what remains."""
         document, activity = self.document, self.document.activities[task]
-        name = f"{called(activity)}: its assignment of {named(self.resources[resource])}"
+        name = f"{called(activity)}: its assignment of {named(resource)}"
         hours = Fraction(document.remaining[task], HOUR)
         if any(number(row, one, name) for one in ("target_lag_drtn_hr_cnt", "relag_drtn_hr_cnt")):
             raise BadInput(f"{name} begins later than the activity")
         if cell(row, "curv_id"):
             raise BadInput(f"{name} has a curve, and units stay the same here")
-        if cell(activity, "task_type") == "TT_Rsrc":
-            self.must_have_hours(resource, name)
         whole, each = (next((told for told in (number(row, f"{kind}{what}", name) for kind in ("remain_", "target_"))
                              if told is not None), None) for what in ("qty", "qty_per_hr"))
         if whole is None and each is None:
@@ -91,12 +88,6 @@ class Needs:
             raise BadInput(f"{name} takes another time than the activity: {float(whole or 0):g} hours of work by "
                            f"{float(each):g} an hour, in {float(hours):g} hours")
         return each
-
-    def must_have_hours(self, resource: str, name: str) -> None:
-        """An activity that depends on its resources works in their calendars."""
-        document, uid = self.document, cell(self.resources[resource], "clndr_id")
-        if uid in document.calendars and document.hours(uid) != document.hours(document.calendar_id):
-            raise BadInput(f"{name} works in the {document.calendar_name(uid)}; all have one calendar here")
 
     def there(self, uid: str, resource: Row) -> list[Stretch]:
         """How many units there are when. The first that are told were there before too."""
@@ -109,7 +100,3 @@ class Needs:
         begins = [None, *(at for at, _ in told[1:])]
         ends = [*begins[1:], None]
         return [(first, last, count or Fraction(0)) for first, last, (_, count) in zip(begins, ends, told)]
-
-
-def named(resource: Row) -> str:
-    return f"resource '{short(cell(resource, 'rsrc_name') or cell(resource, 'rsrc_short_name'))}'"

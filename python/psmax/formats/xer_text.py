@@ -3,13 +3,15 @@ import datetime
 from collections.abc import Iterable, Mapping
 
 from ..answer import Schedule
-from ..calendars import Calendar
+from ..crew_hours import by_day
+from ..dates import read_workdays
 from ..errors import BadInput
 from ..files import decoded
-from ..model import Activity, Lag, Parts
-from ..work_time import WorkTime, minutes_of
-from .xer_calendar import calendar_data
-from .xer_document import ENDS, Document
+from ..model import Activity, Lag, Parts, Resource
+from .tool_file import Dates, dates_of, is_said
+from .xer_calendar import calendar_data, data_of
+from .xer_crews import DEPENDS
+from .xer_document import COMPLETE, ENDS, Document
 from .xer_limits import Progress
 from .xer_sign import MARK
 from .xer_tables import CELLS, COLUMNS, HOUR, LAST, TABLE, cell, read_tables
@@ -17,6 +19,7 @@ from .xer_tables import CELLS, COLUMNS, HOUR, LAST, TABLE, cell, read_tables
 REFUSED = ("Primavera has no maximum lags between activities, no absences, at most two constraints of an activity, and "
            "one due date for all; write this project as JSON")
 MOST_CONSTRAINTS = 2
+PLAN, TOP = 1, 1  # the IDs of the activities' calendar, and of the topmost row of the work breakdown
 STAMP = "%Y-%m-%d %H:%M"
 # What has not started begins and ends then, by table; its assignments too, since they are as long.
 BEGINS = {"TASK": ("early_start_date", "target_start_date", "restart_date"),
@@ -27,33 +30,28 @@ Cells = Mapping[str, object]
 
 
 def write(project: Parts) -> str:
-    """A project with a work time that has hours. Each lag is a link or a constraint."""
-    time = project.work_time
-    if time is None or time.shift is None:
-        raise BadInput("Primavera needs a work time with hours, such as a shift of 08:00-12:00,13:00-17:00")
-    due = {one.due for one in project.activities}
+    """A project with dates. Each lag is a link or a constraint."""
+    dates, due = dates_of(project.work_time, "Primavera"), {one.due for one in project.activities}
     if project.absences or len(due) > 1 or any(
             project.end in (lag.before, lag.after) or lag.after == project.start for lag in project.lags):
         raise BadInput(REFUSED)
-    calendar, minutes = time.calendar(), minutes_of(time.period)
-    first, ends = stamp(calendar.begins(0)), next(iter(due), None)
+    first, ends = stamp(dates.begins(0)), next(iter(due), None)
     links = [lag for lag in project.lags if lag.before != project.start]
     limits = limits_of(project)
     used = [one for one in project.resources if any(activity.demands.get(one) for activity in project.activities)]
     tables: dict[str, list[Cells]] = {
-        "CALENDAR": [calendar_row(time)],
-        "PROJECT": [{"proj_id": 1, "proj_short_name": "PLAN", "export_flag": "Y", "clndr_id": 1,
-                     "plan_start_date": first, "last_recalc_date": first,
-                     "plan_end_date": "" if ends is None else stamp(calendar.ended(ends))}],
-        "PROJWBS": [{"wbs_id": 1, "proj_id": 1, "proj_node_flag": "Y", "wbs_short_name": "PLAN",
-                     "wbs_name": project.name}],
-        "RSRC": [{"rsrc_id": one.number + 1, "clndr_id": 1, "rsrc_short_name": f"R{one.number + 1}",
+        "CALENDAR": calendars(project, dates),
+        "PROJECT": [{"proj_id": 1, "proj_short_name": "PLAN", "export_flag": "Y", "clndr_id": PLAN, "plan_start_date": first,
+                     "last_recalc_date": stamp(dates.begins(project.status or 0)),
+                     "plan_end_date": "" if ends is None else stamp(dates.ended(ends))}],
+        "PROJWBS": breakdown(project),
+        "RSRC": [{"rsrc_id": one.number + 1, "clndr_id": calendar_id(project, one), "rsrc_short_name": f"R{one.number + 1}",
                   "rsrc_name": one.name, "rsrc_type": "RT_Labor"} for one in used],
         "RSRCRATE": [{"rsrc_rate_id": one.number + 1, "rsrc_id": one.number + 1, "max_qty_per_hr": one.capacity,
                       "start_date": first} for one in used],
-        "TASK": [task(project, activity, limits.get(activity, []), calendar, minutes) for activity in project.activities],
-        "TASKPRED": [link(number, lag, minutes) for number, lag in enumerate(links, 1)],
-        "TASKRSRC": list(assignments(project, minutes)),
+        "TASK": [task(project, activity, limits.get(activity, []), dates) for activity in project.activities],
+        "TASKPRED": [link(number, lag, dates.minutes) for number, lag in enumerate(links, 1)],
+        "TASKRSRC": list(assignments(project, dates.minutes)),
     }
     lines = [f"{MARK}8.0\t{first[:10]}\tProject"]
     for name, rows in tables.items():
@@ -64,10 +62,10 @@ def write(project: Parts) -> str:
 
 
 def limits_of(project: Parts) -> dict[Activity, list[Lag]]:
-    """The lags from the project's start to each activity."""
+    """The lags from the project's start to each activity, but for those that its real start or the data date says."""
     found: dict[Activity, list[Lag]] = {}
     for lag in project.lags:
-        if lag.before == project.start:
+        if lag.before == project.start and not is_said(project, lag):
             found.setdefault(lag.after.activity, []).append(lag)
     return found
 
@@ -80,26 +78,66 @@ def hours(minutes: float) -> str:
     return f"{minutes / HOUR:.6f}".rstrip("0").rstrip(".")
 
 
-def calendar_row(time: WorkTime) -> Cells:
-    return {"clndr_id": 1, "default_flag": "Y", "clndr_name": "Plan", "base_clndr_id": "", "clndr_type": "CA_Base",
-            "clndr_data": calendar_data(time.workdays or "mon-sun", time.shift or "", time.free_days)}
+def calendars(project: Parts, dates: Dates) -> list[Cells]:
+    """That of the activities, and those of resources with hours of their own, which have its days off."""
+    time, workdays = dates.time, dates.time.workdays or "mon-sun"
+    found: list[Cells] = [{"clndr_id": PLAN, "default_flag": "Y", "clndr_name": "Plan", "base_clndr_id": "",
+                           "clndr_type": "CA_Base", "clndr_data": calendar_data(workdays, time.shift or "", time.free_days)}]
+    return found + [{"clndr_id": calendar_id(project, one), "default_flag": "N", "clndr_name": one.name, "base_clndr_id": PLAN,
+                     "clndr_type": "CA_Rsrc", "clndr_data": data_of(by_day(own, read_workdays(workdays)), ())}
+                    for one, own in project.hours.items()]
 
 
-def task(project: Parts, activity: Activity, limits: Iterable[Lag], calendar: Calendar, minutes: int) -> Cells:
-    told = [one for lag in limits for one in constraints(lag, calendar)]
+def calendar_id(project: Parts, resource: Resource) -> int:
+    return PLAN + 1 + resource.number if resource in project.hours else PLAN
+
+
+def breakdown(project: Parts) -> list[Cells]:
+    """The project, and its groups as they stand in each other."""
+    found: list[Cells] = [{"wbs_id": TOP, "proj_id": 1, "parent_wbs_id": "", "proj_node_flag": "Y", "wbs_short_name": "PLAN",
+                           "wbs_name": project.name}]
+    for place, one in enumerate(project.groups):
+        around = next((TOP + 1 + other for other in range(place - 1, -1, -1)
+                       if {*one.activities} <= {*project.groups[other].activities}), TOP)
+        found.append({"wbs_id": TOP + 1 + place, "proj_id": 1, "parent_wbs_id": around, "proj_node_flag": "N",
+                      "wbs_short_name": f"G{place + 1}", "wbs_name": one.name})
+    return found
+
+
+def task(project: Parts, activity: Activity, limits: Iterable[Lag], dates: Dates) -> Cells:
+    told = [one for lag in limits for one in constraints(lag, dates)]
     if len(told) > MOST_CONSTRAINTS:
         raise BadInput(REFUSED)
     (kind, date), (second_kind, second_date) = [*told, ("", ""), ("", "")][:MOST_CONSTRAINTS]
-    length = hours(activity.duration * minutes)
-    return {"task_id": activity.number, "proj_id": 1, "wbs_id": 1, "clndr_id": 1,
+    depends = any(one in project.hours for one, units in activity.demands.items() if units)
+    group = max((place for place, one in enumerate(project.groups) if activity.number in one.activities), default=-1)
+    status, begins, ends, left = done(project, activity, dates)
+    return {"task_id": activity.number, "proj_id": 1, "wbs_id": TOP + 1 + group, "clndr_id": PLAN,
             "task_code": project.ids.get(activity.number) or f"A{10 * activity.number:05}", "task_name": activity.name,
-            "task_type": "TT_Task" if activity.duration else "TT_Mile", "status_code": "TK_NotStart",
-            "target_drtn_hr_cnt": length, "remain_drtn_hr_cnt": length, "cstr_type": kind, "cstr_date": date,
-            "cstr_type2": second_kind, "cstr_date2": second_date, "act_start_date": "", "act_end_date": "",
-            "early_start_date": "", "early_end_date": "", "target_start_date": "", "target_end_date": ""}
+            "task_type": "TT_Mile" if not activity.duration else DEPENDS if depends else "TT_Task", "status_code": status,
+            "target_drtn_hr_cnt": hours(activity.duration * dates.minutes), "remain_drtn_hr_cnt": hours(left * dates.minutes),
+            "cstr_type": kind, "cstr_date": date, "cstr_type2": second_kind, "cstr_date2": second_date,
+            "act_start_date": begins, "act_end_date": ends, "early_start_date": "", "early_end_date": "",
+            "target_start_date": "", "target_end_date": ""}
 
 
-def constraints(lag: Lag, calendar: Calendar) -> list[tuple[str, str]]:
+def done(project: Parts, activity: Activity, dates: Dates) -> tuple[str, str, str, int]:
+    """How far an activity has come, its real start and end, and how many periods are left of it."""
+    begun = project.started.get(activity.number)
+    if begun is None:
+        return "TK_NotStart", "", "", activity.duration
+    begins, end, left = stamp(dates.begins(begun)), begun + activity.duration, left_of(project, activity)
+    if left:
+        return "TK_Active", begins, "", left
+    return COMPLETE, begins, stamp(dates.ended(end)) if activity.duration else begins, 0
+
+
+def left_of(project: Parts, activity: Activity) -> int:
+    begun = project.started.get(activity.number)
+    return activity.duration if begun is None else max(0, begun + activity.duration - (project.status or 0))
+
+
+def constraints(lag: Lag, dates: Dates) -> list[tuple[str, str]]:
     """What a lag from the project's start says of an activity, each with its date."""
     is_end, least, most = lag.after.is_end, lag.at_least, lag.at_most
     told = [("CS_MEOA" if is_end else "CS_MSOA", least), ("CS_MEOB" if is_end else "CS_MSOB", most)]
@@ -108,7 +146,7 @@ def constraints(lag: Lag, calendar: Calendar) -> list[tuple[str, str]]:
     found = [(kind, time) for kind, time in told if time is not None]
     if any(time < is_end for _, time in found):
         raise BadInput(REFUSED)
-    return [(kind, stamp(calendar.ended(time) if is_end else calendar.begins(time))) for kind, time in found]
+    return [(kind, stamp(dates.ended(time) if is_end else dates.begins(time))) for kind, time in found]
 
 
 def link(number: int, lag: Lag, minutes: int) -> Cells:
@@ -123,9 +161,9 @@ def assignments(project: Parts, minutes: int) -> Iterable[Cells]:
     pairs = ((activity, one, units) for activity in project.activities
              for one, units in activity.demands.items() if units)
     for number, (activity, one, units) in enumerate(pairs, 1):
-        whole = hours(units * activity.duration * minutes)
+        whole, left = (hours(units * length * minutes) for length in (activity.duration, left_of(project, activity)))
         yield {"taskrsrc_id": number, "task_id": activity.number, "proj_id": 1, "rsrc_id": one.number + 1,
-               "remain_qty": whole, "target_qty": whole, "remain_qty_per_hr": units, "target_qty_per_hr": units}
+               "remain_qty": left, "target_qty": whole, "remain_qty_per_hr": units, "target_qty_per_hr": units}
 
 
 def replanned(data: bytes, schedule: Schedule) -> bytes:

@@ -5,11 +5,11 @@ from dataclasses import dataclass, field
 from enum import Enum
 from functools import lru_cache
 
+from ..crew_hours import Hours, read_hours
 from ..dates import is_dated
 from ..errors import BadInput
 from ..letters import short
 from ..project import MOST_RESOURCES, MOST_UNITS
-from .crew_hours import Hours, read_hours
 from .csv_text import Sheet, cell
 from .faults import Faults, fault_at
 from .quantities import WORDS, Unit

@@ -1,24 +1,17 @@
-"""The resources of a table that have hours of their own: the period that these need, the times outside them up to a
-horizon, and which activities fit between these."""
+"""The resources of a table that have hours of their own: the period that these need, and which activities fit into
+them."""
 from collections.abc import Collection, Iterable, Sequence
-from dataclasses import replace
 from fractions import Fraction
 
+from ..crew_hours import SPANS, Crews, Stretch, is_within, off_times, windows
 from ..dates import MIDNIGHT
-from ..errors import BadInput
 from ..letters import short
-from ..project import MOST_ACTIVITIES, Project
-from ..serial import serial_end
 from ..work_time import moment, shift
 from .columns import Column, Columns
-from .crew_hours import Crews, Stretch, is_within, off_times, windows
 from .faults import Faults, fault_at
 from .quantities import Length, Unit
 from .rows import Row, Terms
 from .settings import Settings
-
-SPANS = [56 * 2**step for step in range(7)]  # days in which all may have ended
-SPARE_DAYS, SPARE_SHARE = 7, 4  # a horizon is a week behind a schedule, or a quarter of it, as that may break lags
 
 
 def parts_of(settings: Settings, marks: Collection[int] = ()) -> list[Stretch]:
@@ -83,30 +76,6 @@ def why_inexact(crews: Crews) -> str:
         except ValueError as fault:
             return f"{fault}"
     return ""
-
-
-def with_hours(project: Project, crews: Crews, wanted: int | None) -> Project:
-    """The project with the times outside hours, up to the horizon that is wanted, or to one behind a schedule by
-    the minimum lags."""
-    if wanted is not None:
-        return cut_off(project, crews, max(wanted, crews.now + 1))
-    for days in SPANS:
-        until = crews.after(crews.now, days)
-        found = cut_off(project, crews, until)
-        end = serial_end(found, until)
-        if end is not None:
-            spare = max(end + (end - crews.now) // SPARE_SHARE, crews.after(max(end, crews.now), SPARE_DAYS))
-            return cut_off(project, crews, spare)
-        if len(found.off) > MOST_ACTIVITIES:
-            break
-    return found
-
-
-def cut_off(project: Project, crews: Crews, horizon: int) -> Project:
-    try:
-        return replace(project, off=crews.off(horizon), horizon=horizon, crews=frozenset(crews.hours))
-    except ValueError as fault:
-        raise BadInput(f"hours of a resource: {fault}") from None
 
 
 def needed(demands: Sequence[int], crews: Crews) -> frozenset[int]:

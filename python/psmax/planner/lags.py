@@ -9,11 +9,12 @@ from fractions import Fraction
 from ..dated import DatedLag, everywhere
 from ..dates import is_dated
 from ..letters import short
+from ..model import Group
 from ..project import MOST_UNITS, Arc
 from .columns import Column
 from .faults import CellFault, Faults
 from .quantities import NUMBER, WORDS, Length, Unit, number, read_length
-from .rows import Group, Row
+from .rows import Row
 
 START = "start"  # the start of the project, as something to come after
 START_OF = "start of "  # before a name: its start, and not its end

@@ -5,12 +5,12 @@ from collections.abc import Sequence
 from contextlib import suppress
 from dataclasses import dataclass, field
 
+from ..crew_hours import SPANS, Crews, Stretch, windows
 from ..dated import DatedLag
 from ..errors import BadInput
 from ..project import Arc, Project
 from .columns import Column
-from .crew_hours import Crews, Stretch, windows
-from .crews import SPANS, needed
+from .crews import needed
 from .faults import CellFault, Faults
 from .lags import Activities
 from .progress import TOLD

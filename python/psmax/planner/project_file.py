@@ -7,11 +7,13 @@ from dataclasses import dataclass, field, replace
 
 from ..calendars import Calendar
 from ..clock import Clock
+from ..crew_hours import Crews
 from ..date_style import decimal_sign, style_of
 from ..errors import BadInput
 from ..files import SPREADSHEET, decoded, is_in_code_page, read_bytes, read_text, without_blank_rows
 from ..formats import FORMATS, must_be_readable, read
 from ..formats.sch import CTRL_Z
+from ..model import Group, Parts
 from ..project import Goal
 from ..project import Project as Numbers
 from ..psmax import Psmax
@@ -20,7 +22,6 @@ from .columns import is_head
 from .csv_text import read_sheet
 from .answer_text import KEYS, LINE, WITH_STARTS, answer_sheet, json_object
 from .names import Names, read_page
-from .rows import Group
 from .progress import Progress
 from .settings import Settings, calendar, checked, from_rows, time_of
 from .table import Table, read_table
@@ -42,10 +43,20 @@ class ProjectFile:
     mornings: dict[int, list[int]] = field(default_factory=dict)
     decimal: str = "."  # in numbers, as the table writes it
     text: str = ""  # of the table, as it was read
+    parts: Parts | None = None  # the project of another format, by names
 
     @property
     def groups(self) -> tuple[Group, ...]:
+        if self.parts is not None:
+            return (*self.parts.groups,)
         return self.table.groups if self.table is not None else ()
+
+    @property
+    def crews(self) -> Crews | None:
+        """The resources with hours of their own."""
+        if self.parts is not None:
+            return self.parts.crews()
+        return self.table.crews if self.table is not None else None
 
     @property
     def progress(self) -> Progress:
@@ -146,8 +157,11 @@ def open_other(path: str, data: bytes, words: Settings, page: str | None) -> Pro
     for name in ("absences", "status", "horizon", "sheet"):
         if getattr(settings, name) is not None:
             raise BadInput(f"{path}: --{name} is for tables")
-    numbers = made.numbers(settings.minimize or Goal.MAKESPAN.value)
-    return ProjectFile(path, numbers, names, settings, calendar(settings, names.unit, days), {"the project": path})
+    numbers, dates = made.numbers(settings.minimize or Goal.MAKESPAN.value), calendar(settings, names.unit, days)
+    if made.hours and (made.work_time is None or dates != made.work_time.calendar()):
+        raise BadInput(f"{path}: resources have hours of their own, which need the days and hours of the file; leave out "
+                       "--from and other words for these")
+    return ProjectFile(path, numbers, names, settings, dates, {"the project": path}, parts=made)
 
 
 def is_starts(text: str) -> bool:

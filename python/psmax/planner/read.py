@@ -16,9 +16,10 @@ from ..project_text import ProjectText
 from ..psmax import Psmax
 from .answer_text import answer_sheet
 from .names import MADE, page, read_page
-from .project_file import PROJECT, ProjectFile, is_other, of_table, page_of
+from .project_file import PROJECT, ProjectFile, is_other, of_table, open_table, page_of
 from .settings import Settings, from_rows
 from .table import read_table
+from .table_parts import as_parts
 from .wording import Words
 
 PSPLIB = ".sch"
@@ -32,19 +33,19 @@ MODES = f"; a PSPLIB set with several modes for an activity (MRCPSP/max) is anot
 def read(path: str, out: str | None, wanted: str | None, words: Settings) -> int:
     """By what the file holds; a name that ends in .sch says that it is none of a table."""
     data = without_blank_rows(read_bytes(path))
-    if data.startswith(SPREADSHEET) and wanted in (None, "sch"):
-        return read_activities(path, out, words)
+    if wanted is None and out is not None and pathlib.Path(out).suffix.lower() in OTHERS:
+        wanted = formats.of_file(out)
+    if data.startswith(SPREADSHEET):
+        return read_activities(path, out, words) if wanted in (None, "sch") else convert_table(path, out, f"{wanted}", words)
     formats.must_be_readable(path, data)
     text = decoded(data)
     is_sch = pathlib.Path(path).suffix.lower() == PSPLIB or formats.FORMATS["sch"].is_like(text)
-    if wanted is None and out is not None and pathlib.Path(out).suffix.lower() in OTHERS:
-        wanted = formats.of_file(out)
     if is_other(text) or is_sch and wanted not in (None, "sch"):
         return convert(path, out, wanted or "sch")
     if is_sch:
         return read_sch(path, out)
     if wanted not in (None, "sch"):
-        raise BadInput(f"{path}: a table becomes a project text alone; read that to write it as {wanted}")
+        return convert_table(path, out, f"{wanted}", words)
     return read_activities(path, out, words)
 
 
@@ -53,6 +54,17 @@ def convert(path: str, out: str | None, wanted: str) -> int:
     lose_none({"the project": path}, [out])
     project = Project()
     formats.read(read_bytes(path), project, path)
+    return put(path, project, out, wanted)
+
+
+def convert_table(path: str, out: str | None, wanted: str, words: Settings) -> int:
+    """The same of a table, with its names."""
+    opened = open_table(path, words)
+    lose_none(opened.inputs(), [out])
+    return put(path, as_parts(opened), out, wanted)
+
+
+def put(path: str, project: Project, out: str | None, wanted: str) -> int:
     try:
         data = project.text(wanted).encode()
     except BadInput as fault:

@@ -102,7 +102,7 @@ def calendar(file: ProjectFile) -> str:
 
 def hours(file: ProjectFile) -> Iterator[str]:
     """Those of each resource that has its own, and up to when they are known."""
-    crews = file.table.crews if file.table is not None else None
+    crews = file.crews
     if crews is None or file.project.horizon is None:
         return
     for number, one in crews.hours.items():

@@ -8,6 +8,7 @@ from itertools import accumulate
 from ..calendars import Calendar
 from ..dates import FAR, FAR_YEARS, Moment, is_before, is_dated, read_moment
 from ..letters import short
+from ..model import Group
 from ..project import MOST_UNITS
 from .columns import Column, Columns
 from .csv_text import cell
@@ -225,14 +226,6 @@ def told_apart(rows: Iterable[Row]) -> list[Row]:
     twice = {name for name, own in ids.items() if len(own) > 1 and all(own) and len({*own}) == len(own)}
     return [row.with_texts({Column.NAME: f"{row.cell(Column.NAME)} ({row.cell(Column.ID)})"})
             if row.cell(Column.NAME) in twice and row.cell(Column.DURATION) else row for row in rows]
-
-
-@dataclass(frozen=True)
-class Group:
-    """A summary row of a work breakdown, which charts show as a bracket over the activities below it."""
-
-    name: str
-    activities: range  # by their numbers, which stand one after another
 
 
 def is_reversed(first: int | Moment, last: int | Moment, begins: int, ends: int) -> bool:

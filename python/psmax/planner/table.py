@@ -4,17 +4,18 @@ from contextlib import suppress
 from dataclasses import dataclass, replace
 
 from ..calendars import Calendar
+from ..crew_hours import Crews, with_hours
 from ..dated import DatedLag
 from ..dates import is_dated
 from ..errors import BadInput
 from ..letters import printable, short
+from ..model import Group
 from ..project import MOST_ACTIVITIES, MOST_ARCS, Arc, Goal, Project
 from ..work_time import minutes_of, moment, workdays
 from .above import Above, read_above
 from .absences import read_absences
 from .columns import LAGS, Column, Columns, count_heads, is_head, read_heads, resource
-from .crew_hours import Crews
-from .crews import crews_of, lengths_between, must_fit, parts_of, with_hours
+from .crews import crews_of, lengths_between, must_fit, parts_of
 from .csv_text import Sheet, cell, read_sheet
 from .decimals import with_one_sign
 from .faults import Faults
@@ -23,7 +24,7 @@ from .names import Names
 from .pauses import Cuts
 from .progress import Progress
 from .quantities import Length, Scale, Unit, read_length, scale_of, units_of
-from .rows import Group, Row, Terms, groups, is_summary, level, told_apart
+from .rows import Row, Terms, groups, is_summary, level, told_apart
 from .settings import HOURS_OF_WORK, Settings, calendar, checked, time_of
 
 MOST_ROWS = 10_000  # of activities, and of what more is said of them

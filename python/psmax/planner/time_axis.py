@@ -5,7 +5,7 @@ from collections.abc import Iterator, Sequence
 from dataclasses import dataclass
 
 from ..calendars import DAY, MINUTE, WHOLE_DAY, Calendar, at_midnight, minutes_of
-from .crew_hours import DAY_SHIFT, read_hours
+from ..crew_hours import DAY_SHIFT, read_hours
 from .drawing import Bar, Drawing, round_step
 
 LETTER = 6.5  # pixels of a letter, about

@@ -1,21 +1,28 @@
 """Hours of a resource of its own, such as 06:00-18:00, nights or Mo-Fr, and the times outside them."""
 import datetime
 import re
-from collections.abc import Collection, Iterator, Mapping
-from dataclasses import dataclass
+from collections.abc import Collection, Iterator, Mapping, Sequence
+from dataclasses import dataclass, replace
 
-from ..calendars import DAY, Calendar, Days, Shifts, at_midnight, minutes_of
-from ..dates import MIDNIGHT, SPAN, read_workdays
-from ..letters import short
-from ..project import Off
+from .calendars import DAY, Calendar, Days, Shifts, at_midnight, minutes_of
+from .dates import MIDNIGHT, SPAN, read_workdays
+from .errors import BadInput
+from .letters import short
+from .project import MOST_ACTIVITIES, Off, Project
+from .serial import serial_end
 
 DAY_SHIFT, NIGHT_SHIFT = "06:00-18:00", "18:00-06:00"  # of two that share a day
 WORDS = {word: hours for hours, words in (
     (DAY_SHIFT, "days tags tagschicht"), (NIGHT_SHIFT, "nights nachts nachtschicht"),
 ) for word in words.split()}
 MONDAY = datetime.datetime(2001, 1, 1)  # of some week
+WEEK = 7
+NAMES = ("mon", "tue", "wed", "thu", "fri", "sat", "sun")
+SPANS = [56 * 2**step for step in range(7)]  # days in which all may have ended
+SPARE_DAYS, SPARE_SHARE = 7, 4  # a horizon is a week behind a schedule, or a quarter of it, as that may break lags
 EXAMPLE = "not hours such as 06:00-18:00, nights, or Mo-Fr 06:00-18:00"
 Stretch = tuple[int, int]  # from one time of the project until another
+Span = tuple[int, int]  # of a day, in minutes
 
 
 @dataclass(frozen=True)
@@ -24,7 +31,7 @@ class Hours:
 
     text: str
     days: frozenset[int] | None  # of the week; none are all of the project's
-    spans: tuple[tuple[int, int], ...]  # in minutes of the day; one over midnight ends behind it
+    spans: tuple[Span, ...]  # one over midnight ends behind it
 
     def marks(self) -> list[int]:
         """The minutes of the day at which something changes."""
@@ -123,3 +130,66 @@ def windows(off: Collection[Off], crews: Collection[int], now: int, until: int) 
         found += [(time, one.begins)] if time < one.begins else []
         time = max(time, one.ends)
     return found + ([(time, until)] if time < until else [])
+
+
+def with_hours(project: Project, crews: Crews, wanted: int | None) -> Project:
+    """The project with the times outside hours, up to the horizon that is wanted, or to one behind a schedule by
+    the minimum lags."""
+    if wanted is not None:
+        return cut_off(project, crews, max(wanted, crews.now + 1))
+    for days in SPANS:
+        until = crews.after(crews.now, days)
+        found = cut_off(project, crews, until)
+        end = serial_end(found, until)
+        if end is not None:
+            spare = max(end + (end - crews.now) // SPARE_SHARE, crews.after(max(end, crews.now), SPARE_DAYS))
+            return cut_off(project, crews, spare)
+        if len(found.off) > MOST_ACTIVITIES:
+            break
+    return found
+
+
+def cut_off(project: Project, crews: Crews, horizon: int) -> Project:
+    try:
+        return replace(project, off=crews.off(horizon), horizon=horizon, crews=frozenset(crews.hours))
+    except ValueError as fault:
+        raise BadInput(f"hours of a resource: {fault}") from None
+
+
+def of_week(week: Sequence[Sequence[Span]]) -> Hours | None:
+    """The hours of Monday to Sunday, each within its day, as one kind of shift; none where the days differ in these."""
+    for spans in (week, over_midnight(week)):
+        days = [day for day, own in enumerate(spans) if own]
+        if len({tuple(spans[day]) for day in days}) == 1:
+            parts = [f"{clock(begins)}-{clock(ends)}" for begins, ends in spans[days[0]]]
+            text = f"{','.join(NAMES[day] for day in days)} {','.join(parts)}"
+            return Hours(text, frozenset(days), tuple(spans[days[0]]))
+    return None
+
+
+def clock(minutes: int) -> str:
+    """A time of the day, which ends at 24:00."""
+    rest = minutes if minutes <= MIDNIGHT else minutes - MIDNIGHT
+    return f"{rest // 60:02}:{rest % 60:02}"
+
+
+def over_midnight(week: Sequence[Sequence[Span]]) -> list[list[Span]]:
+    """What ends at midnight and goes on then is one shift, of the day on which it begins."""
+    found: list[list[Span]] = []
+    for day, spans in enumerate(week):
+        goes_on = any(0 < begins and ends == MIDNIGHT for begins, ends in week[day - 1])
+        later = [ends for begins, ends in week[(day + 1) % WEEK] if begins == 0]
+        found.append([(begins, MIDNIGHT + later[0] if 0 < begins and ends == MIDNIGHT and later else ends)
+                      for begins, ends in spans if begins or not goes_on])
+    return found
+
+
+def by_day(hours: Hours, workdays: Collection[int]) -> list[list[Span]]:
+    """The hours of Monday to Sunday, each within its day, on the days on which the project has work."""
+    found: list[list[Span]] = [[] for _ in range(WEEK)]
+    for day in range(WEEK) if hours.days is None else hours.days:
+        for begins, ends in hours.spans:
+            found[day].append((begins, min(ends, MIDNIGHT)))
+            if ends > MIDNIGHT:
+                found[(day + 1) % WEEK].append((0, ends - MIDNIGHT))
+    return [sorted(spans) if day in workdays else [] for day, spans in enumerate(found)]

@@ -1,0 +1,113 @@
+"""What the files of planning tools share: faults that are told at once, links, and the hours that they need."""
+import datetime
+from collections.abc import Callable, Iterator
+from contextlib import contextmanager
+from dataclasses import dataclass, field, replace
+from functools import cached_property
+
+from ..calendars import MINUTES, Calendar
+from ..crew_hours import SPANS, windows
+from ..dates import read_shift
+from ..errors import BadInput
+from ..letters import at_most
+from ..model import Activity, Lag, Parts
+from ..work_time import WorkTime, minutes_of
+
+ALL_DAY, USUAL = "00:00-24:00", "08:00-12:00,13:00-17:00"  # where a project says no hours
+HALF = "4 hours"  # of a usual day
+
+
+@dataclass
+class Gathering:
+    faults: list[str] = field(default_factory=list, kw_only=True)
+
+    @contextmanager
+    def kept(self) -> Iterator[None]:
+        try:
+            yield
+        except BadInput as fault:
+            self.faults += map(str, fault.args)
+
+    def tell(self) -> None:
+        """Each once."""
+        if self.faults:
+            raise BadInput(*at_most([*dict.fromkeys(self.faults)]))
+
+
+@dataclass(frozen=True)
+class Link:
+    """From the start or end of one activity to that of another pass so many minutes of work at least."""
+
+    before: str
+    after: str
+    from_end: bool
+    to_end: bool
+    minutes: int
+
+
+@dataclass(frozen=True)
+class Dates:
+    """The times of a project as moments of a calendar that has hours."""
+
+    time: WorkTime  # with hours
+    factor: int  # how many periods of that are one of the project
+    minutes: int  # of work, in a period of the project
+
+    @cached_property
+    def calendar(self) -> Calendar:
+        return self.time.calendar()
+
+    def begins(self, time: int) -> datetime.datetime:
+        return self.calendar.begins(time * self.factor)
+
+    def ended(self, time: int) -> datetime.datetime:
+        return self.calendar.ended(time * self.factor)
+
+
+def dates_of(time: WorkTime | None, tool: str) -> Dates:
+    """A day without hours gets the usual ones, and what goes on around the clock all of them."""
+    if time is None:
+        raise BadInput(f"{tool} needs dates, which follow from the first day of the project: --from 2026-03-02")
+    minutes = minutes_of(time.period)
+    if time.shift is not None:
+        return Dates(time, 1, minutes)
+    if minutes >= MINUTES["days"]:
+        days = minutes // MINUTES["days"]
+        halves = replace(time, first=time.first.split()[0], period=HALF, shift=USUAL)
+        return Dates(halves, 2 * days, days * sum(ends - begins for begins, ends in read_shift(USUAL)))
+    found = Dates(replace(time, shift=ALL_DAY, zone=None), 1, minutes)
+    if time.zone is not None or found.calendar.begins(0) != time.calendar().begins(0):
+        odd = "time zones" if time.zone is not None else f"periods of {time.period} from then on"
+        raise BadInput(f"{tool} has no {odd}; choose another first day, or other periods")
+    return found
+
+
+def is_said(project: Parts, lag: Lag) -> bool:
+    """Whether a lag from the start of the project follows from the real start of what has started, or from the status
+    date."""
+    begun = project.started.get(lag.after.activity.number)
+    if begun is None:
+        return not lag.after.is_end and lag.at_most is None and lag.at_least == project.status
+    time = begun + lag.after.offset
+    return (lag.at_least is None or lag.at_least <= time) and (lag.at_most is None or time <= lag.at_most)
+
+
+def must_fit(project: Parts, faults: Gathering, called: Callable[[Activity], str]) -> None:
+    """What needs resources with hours of their own goes on without a break."""
+    crews = project.crews()
+    if crews is None:
+        return
+    until = crews.after(crews.now, SPANS[0])
+    try:
+        off = crews.off(until)
+    except ValueError as fault:
+        raise BadInput(f"hours of a resource: {fault}") from None
+    for activity in project.activities:
+        crew = {one.number for one, units in activity.demands.items() if units} & crews.hours.keys()
+        begun = project.started.get(activity.number)
+        rest = activity.duration if begun is None else begun + activity.duration - crews.now
+        found = windows(off, crew, crews.now, until) if crew and rest > 0 else []
+        longest = max((last - first for first, last in found if begun is None or first <= crews.now), default=0)
+        if crew and rest > longest:
+            faults.faults.append(f"{called(activity)}: it takes longer than all that it needs is there at a time, and "
+                                 "activities run without a break; write an activity for each shift")
