@@ -1,4 +1,5 @@
 """A project as numbers: activities and resources, what of these is away when, and what is minimized."""
+from collections import deque
 from collections.abc import Collection, Mapping, Sequence
 from dataclasses import dataclass, field, replace
 from enum import Enum
@@ -221,17 +222,25 @@ def lags_only(project: Project, arcs: list[Arc]) -> Project:
 
 
 def least_starts(project: Project) -> list[int] | None:
-    """The least start of each activity by the lags alone; none where they contradict each other."""
+    """The least start of each activity by the lags alone; none where they contradict each other: then the start of the
+    project has to be later, or an activity is put later more often than there are activities."""
+    leaving: list[list[Arc]] = [[] for _ in project.durations]
+    for arc in project.rules():
+        leaving[arc.tail].append(arc)
     least: list[float] = [0, *[-float("inf")] * project.end]
-    rules = project.rules()
-    for _ in least:
-        is_done = True
-        for tail, head, lag in rules:
+    turns, waits, moves = deque([0]), [False] * len(least), [0] * len(least)
+    while turns:
+        tail = turns.popleft()
+        waits[tail] = False
+        for _, head, lag in leaving[tail]:
             if least[tail] + lag > least[head]:
-                least[head], is_done = least[tail] + lag, False
-        if is_done:
-            return [int(start) for start in least]
-    return None
+                least[head] = least[tail] + lag
+                if head == 0 or moves[head] > len(least):
+                    return None
+                if not waits[head]:
+                    waits[head], moves[head] = True, moves[head] + 1
+                    turns.append(head)
+    return [int(start) for start in least]
 
 
 def least_end(project: Project, starts: Mapping[int, int]) -> int:
