@@ -176,7 +176,7 @@ class Records(InFolder):
 
 class Progress(InFolder):
     LINE = re.compile(r" *\d+\.\d\d s  (?:schedule (\d+)(?:: .+)?|bound (\d+)|"
-                      r"feasible (\d+) bound (\d+), proved: psprove solve .+|the .* seconds are over|stopped)")
+                      r"feasible (\d+) bound (\d+), proved: psprove solve .+|the (second is|.* seconds are) over|stopped)")
 
     def held(self, out: str, path: pathlib.Path, told: str) -> None:
         """A stopped answer is the best that was told, and a schedule that psmax finds feasible."""
@@ -192,7 +192,7 @@ class Progress(InFolder):
             out, told = child.communicate()
         self.assertLess(time.monotonic() - begun, 60)
         self.assertEqual(child.returncode, 3)
-        self.assertTrue(told.endswith("the 1 seconds are over\n"), told)
+        self.assertTrue(told.endswith("the second is over\n"), told)
         self.held(out, path, told)
 
     def test_interrupt(self) -> None:

@@ -67,7 +67,8 @@ class Clock:
             signal.signal(signal.SIGINT, before)
 
     def why_over(self) -> str:
-        return "stopped" if self.stopped else f"the {self.seconds:g} seconds are over"
+        limit = "second is" if self.seconds == 1 else f"{self.seconds:g} seconds are"
+        return "stopped" if self.stopped else f"the {limit} over"
 
 
 def heard() -> list[signal.Signals]:
