@@ -38,7 +38,7 @@ from psmax import __version__
 
 Blocks = Sequence[tuple[str, str]]  # the blocks of a document, each with its kind
 SHOWN = {"README.md", "docs/FORMAT.md", "docs/RECORD.md", "docs/WORKERS.md", "docs/PLANNER.md", "docs/LEMMAS.md",
-         "docs/BUILDING-SITE.md", "docs/FORMATS.md", "docs/psmax.1", "docs/psprove.1", "docs/plan.1",
+         "docs/BUILDING-SITE.md", "docs/CLUSTER.md", "docs/FORMATS.md", "docs/psmax.1", "docs/psprove.1", "docs/plan.1",
          "examples/building-site.md", "examples/plant-shutdown.md", "examples/test-bench.md"}
 PARTS = ("examples", "planner", "python", "tests")  # what a command may read, besides the programs
 SKIPPED = {".git", "out", "build", "__pycache__"}
