@@ -57,6 +57,15 @@ def tables() -> Texts:
     yield "starts", "0 0\n" * 1_000_000
 
 
+def lists() -> Texts:
+    """What is no list of days or absences, and no answer, and what is many."""
+    for name in ("commas", "braces", "quotes", "line", "titles", "nuls"):
+        yield f"{name}.txt", filled(PIECES[name])
+    yield "lines.txt", filled("1 0\n", SHORT)
+    yield "days.txt", numbered("2026-03-02 .. 2030-03-02, {}\n", 9_000)
+    yield "codes.txt", filled("DE\n", 900_000)
+
+
 def objects() -> Texts:
     yield "short-deep.json", filled("[", SHORT)
     yield "digits.json", '{"a": ' + filled("9", SHORT)

@@ -1,5 +1,6 @@
 """Texts that are made to take long: each has its fault soon, in little room."""
 import http.client
+import json
 import os
 import resource
 import subprocess
@@ -13,7 +14,7 @@ from psmax.files import without_blank_rows
 from psmax.process_limits import limited
 
 from . import hostile_texts
-from .helpers import CALLED, TOP, InFolder, plan
+from .helpers import CALLED, INPUTS, TOP, InFolder, plan
 from .hostile_texts import HEADS, LONG, XER, XML, filled
 from .test_spreadsheets import book, is_here, saved
 from .watching import Watching, done
@@ -23,14 +24,14 @@ SECONDS, MEGABYTES = 5.0, 200
 # Looks at all texts in turn, and tells the seconds of a processor that each took, with those of what it called, the most memory
 # of all, and faults that say nothing.
 LOOK = """
-import contextlib, io, os, re, resource, sys
+import contextlib, io, json, os, re, resource, sys
 from psmax.planner.main import main
 def seconds():
     return sum(os.times()[:4])
-for path in map(str.strip, sys.stdin):
+for words in map(json.loads, sys.stdin):
     begun, told = seconds(), io.StringIO()
     with contextlib.redirect_stderr(told), contextlib.redirect_stdout(io.StringIO()):
-        status = main(["check", path])
+        status = main(words)
     is_clear = status == 2 and told.getvalue().startswith("plan: ") and "Traceback" not in told.getvalue()
     own = int(re.search(r"VmHWM:\\s*(\\d+)", open("/proc/self/status").read())[1])
     most = max(own, resource.getrusage(resource.RUSAGE_CHILDREN).ru_maxrss) // 1024
@@ -39,15 +40,15 @@ for path in map(str.strip, sys.stdin):
 
 
 class Hostile(InFolder):
-    def look(self, texts: hostile_texts.Texts) -> None:
-        """Hands each text to `plan check` in one process, which reads the next name once it has looked at one."""
+    def look(self, texts: hostile_texts.Texts, *before: object) -> None:
+        """Hands each text to `plan check` behind these words, in one process."""
         env = {**os.environ, **CALLED, "PYTHONPATH": str(TOP / "python")}
         with subprocess.Popen([sys.executable, "-c", LOOK], text=True, env=env, stdin=subprocess.PIPE,
                               stdout=subprocess.PIPE) as looks:
             assert looks.stdin is not None and looks.stdout is not None
             for name, text in texts:
                 path = self.file(name, text)
-                print(path, file=looks.stdin, flush=True)
+                print(json.dumps(["check", *map(str, before), str(path)]), file=looks.stdin, flush=True)
                 seconds, megabytes, is_clear, *told = looks.stdout.readline().split(" ", 3)
                 path.unlink()
                 with self.subTest(name):
@@ -64,6 +65,15 @@ class Hostile(InFolder):
     def test_formats(self) -> None:
         for texts in (hostile_texts.objects, hostile_texts.elements, hostile_texts.exports):
             self.look(texts())
+
+    def test_other_files(self) -> None:
+        """An answer, days without work, absences, and the page of names."""
+        table = self.file("p.csv", f"from,2026-03-02\n{HEADS},crane (1)\na,3,1\n")
+        options: list[list[str]] = [[], ["--holidays"], ["--absences"]]
+        for option in options:
+            self.look(hostile_texts.lists(), table, *option)
+        page, starts = self.file("p.md", filled("| a | b |\n")), self.file("starts", "0 0\n1 0\n2 3\n3 7\n")
+        self.refused(plan("check", INPUTS / "two-jobs.sch", starts, "--names", page), 2, "p.md: too long")
 
     @unittest.skipUnless(is_here(), "python3-openpyxl isn't here")
     def test_spreadsheets(self) -> None:

@@ -3,6 +3,7 @@ second one, which says from when on and on which days there is work."""
 import re
 from dataclasses import dataclass, field, replace
 
+from ..files import must_be_short, read_bytes
 from ..letters import composed
 from ..project import Project
 from .settings import NAMES as SETTINGS
@@ -37,6 +38,13 @@ class Names:
     def with_dummies(self, end: int) -> "Names":
         """The same with names for the start and the end."""
         return replace(self, activities=self.activities | {0: "the start", end: "the end"})
+
+
+def names_in(path: str) -> Names:
+    """What a page in a file says."""
+    data = read_bytes(path)
+    must_be_short(path, data)
+    return read_page(data)
 
 
 def read_page(data: bytes) -> Names:

@@ -21,7 +21,7 @@ from ..project_text import ProjectText, parse
 from .columns import is_head
 from .csv_text import read_sheet
 from .answer_text import KEYS, LINE, WITH_STARTS, answer_sheet, json_object
-from .names import Names, read_page
+from .names import Names, names_in
 from .progress import Progress
 from .settings import Settings, calendar, checked, from_rows, time_of
 from .table import Table, read_table
@@ -152,7 +152,7 @@ def open_other(path: str, data: bytes, words: Settings, page: str | None) -> Pro
         told = Settings(time.first, time.period, time.workdays, shift=time.shift, zone=time.zone, title=told.title)
         names.unit, days = time.period, frozenset(time.free_days)
     if page is not None:
-        words = words.over(from_rows(read_page(read_bytes(page)).settings, os.path.dirname(page)))
+        words = words.over(from_rows(names_in(page).settings, os.path.dirname(page)))
     settings = checked(words.over(told))
     for name in ("absences", "status", "horizon", "sheet"):
         if getattr(settings, name) is not None:
@@ -204,7 +204,7 @@ def is_project(path: str) -> bool:
 def open_table(path: str, words: Settings, page: str | None = None) -> ProjectFile:
     """The page beside a table is no part of it; one that is named says what the words and the table don't."""
     if page is not None:
-        words = words.over(from_rows(read_page(read_bytes(page)).settings, os.path.dirname(page)))
+        words = words.over(from_rows(names_in(page).settings, os.path.dirname(page)))
     text = read_text(path, words.sheet)
     found = read_table(path, text, words, os.path.dirname(path))
     if is_in_code_page(read_bytes(path)):
@@ -226,7 +226,7 @@ def of_table(path: str, found: Table, sources: dict[str, str], text: str) -> Pro
 def open_text(path: str, data: bytes, words: Settings, page: str | None) -> ProjectFile:
     """A .sch file. Where its page says which table it was made of, and that is there, the table is read too."""
     at = page if page is not None else page_of(path)
-    names = read_page(read_bytes(at)) if page is not None or os.path.isfile(at) else Names()
+    names = names_in(at) if page is not None or os.path.isfile(at) else Names()
     told = from_rows(names.settings, os.path.dirname(at))
     table = os.path.join(os.path.dirname(at), names.source) if names.source else None
     sources = {"the project": path, "the page of names": at, "the page beside the project": page_of(path)}

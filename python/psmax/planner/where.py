@@ -9,7 +9,7 @@ from ..letters import short
 from ..project_text import Place, Word, layout, words
 from ..psmax import Psmax
 from .answer_text import WITH_STARTS
-from .names import Names, read_page
+from .names import Names, names_in
 from .project_file import is_other, is_table, open_project, page_of
 
 NUMBER = re.compile(rb"-?[0-9]{1,9}")
@@ -30,7 +30,7 @@ def where(path: str) -> int:
     except BadInput as fault:
         text = str(fault).removeprefix(f"{path}: ")
         page = page_of(path)
-        names = read_page(read_bytes(page)) if os.path.isfile(page) else Names()
+        names = names_in(page) if os.path.isfile(page) else Names()
         print(f"{path}: {text}", *details(data, text, names), sep="\n")
         return 2
     print(f"{path}: psmax reads it whole")
