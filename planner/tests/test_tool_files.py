@@ -73,6 +73,20 @@ class ToolFiles(InFolder):
                 with self.subTest(what, suffix=suffix):
                     self.same(open_project(str(table)), open_project(str(self.made(table, suffix))))
 
+    def test_from_one_to_the_other(self) -> None:
+        """What both can say goes from each to the other, and stays where a schedule is written into the file."""
+        both = [(what, text) for what, suffixes, text in SAID if suffixes == BOTH]
+        for (what, text), (suffix, other) in itertools.product(both, (BOTH, BOTH[::-1])):
+            with self.subTest(what, suffix=suffix):
+                table, answer = self.file("t.csv", text), self.folder / "a.csv"
+                made, again, planned = self.made(table, suffix), self.folder / f"b{other}", self.folder / f"c{suffix}"
+                answer.unlink(missing_ok=True)
+                for words in (("read", made, "--out", again), ("solve", made, "--jobs", "1", "--out", answer),
+                              ("write", made, answer, "--out", planned)):
+                    self.assertEqual(plan(*words).returncode, 0)
+                for path in (again, planned):
+                    self.same(open_project(str(table)), open_project(str(path)))
+
     def test_what_is_not(self) -> None:
         for suffix, text, told in UNSAID:
             with self.subTest(told):
@@ -132,7 +146,7 @@ class Turnaround(InFolder):
         table, answer, checked = self.file("t.csv", turnaround()), self.folder / "a.csv", set[str]()
         opened = open_project(str(table))
         self.assertEqual(opened.project.end - 1, 127)
-        self.assertIn(plan("solve", table, "--jobs", "1", "--seconds", "2", "--out", answer).returncode, (0, 3))
+        self.assertIn(plan("solve", table, "--jobs", "1", "--seconds", "1", "--out", answer).returncode, (0, 3))
         for suffix in (".csv", ".xml", ".xer", *([".xlsx"] if is_here() else [])):
             path = table if suffix == ".csv" else self.book() if suffix == ".xlsx" else self.folder / f"t{suffix}"
             if suffix in BOTH:

@@ -10,8 +10,8 @@ from unittest import mock
 from .test_watch import Watches
 from .watching import Watching, done
 
-SAVES = int(os.environ.get("SAVES", "24"))
-EACH = 12  # saves between two looks at what is on the screen
+SAVES = int(os.environ.get("SAVES", "16"))
+EACH = 8  # saves between two looks at what is on the screen
 HEAD = "activity,days,crane (1)\n"
 
 

@@ -10,6 +10,7 @@ from ..errors import BadInput
 from ..letters import short
 from ..model import Absence, Activity, Group, Lag, Parts, Resource
 from ..project import least_starts
+from ..work_time import WorkTime
 from .mspdi import ENDS, SPACE, TENTHS, Document
 from .mspdi_calendar import BASE, add_calendar, add_resource_calendar
 from .mspdi_lags import FIELD, Ties, add_field, entries, note, ties_of
@@ -40,10 +41,7 @@ def write(project: Parts) -> str:
              "StatusDate": "" if project.status is None else stamp(dates.begins(project.status))}
     add(root, {name: text for name, text in texts.items() if text})
     add_field(root, ties)
-    workdays = dates.time.workdays or "mon-sun"
-    calendars = add_calendar(root, workdays, dates.time.shift or "", dates.time.free_days)
-    for one, hours in project.hours.items():
-        add_resource_calendar(calendars, calendar_uid(one), one.name, by_day(hours, read_workdays(workdays)))
+    add_calendars(root, project, dates.time)
     tasks, times = SubElement(root, "Tasks"), soonest(project, dates)
     for row in outline_of(project):
         with faults.kept():
@@ -52,6 +50,13 @@ def write(project: Parts) -> str:
     faults.tell()
     add_resources(root, project, dates)
     return written(root)
+
+
+def add_calendars(root: Element, project: Parts, time: WorkTime) -> None:
+    workdays = time.workdays or "mon-sun"
+    calendars = add_calendar(root, workdays, time.shift or "", time.free_days)
+    for one, hours in project.hours.items():
+        add_resource_calendar(calendars, calendar_uid(one), one.name, by_day(hours, read_workdays(workdays)))
 
 
 def soonest(project: Parts, dates: Dates) -> list[tuple[str, str]]:

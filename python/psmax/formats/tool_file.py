@@ -6,7 +6,7 @@ from dataclasses import dataclass, field, replace
 from functools import cached_property
 
 from ..calendars import MINUTES, Calendar
-from ..crew_hours import SPANS, windows
+from ..crew_hours import SPANS, Stretch, windows
 from ..dates import read_shift
 from ..errors import BadInput
 from ..letters import at_most
@@ -102,12 +102,14 @@ def must_fit(project: Parts, faults: Gathering, called: Callable[[Activity], str
         off = crews.off(until)
     except ValueError as fault:
         raise BadInput(f"hours of a resource: {fault}") from None
+    found = dict[frozenset[int], list[Stretch]]()
     for activity in project.activities:
-        crew = {one.number for one, units in activity.demands.items() if units} & crews.hours.keys()
+        crew = frozenset(one.number for one, units in activity.demands.items() if units and one in project.hours)
         begun = project.started.get(activity.number)
         rest = activity.duration if begun is None else begun + activity.duration - crews.now
-        found = windows(off, crew, crews.now, until) if crew and rest > 0 else []
-        longest = max((last - first for first, last in found if begun is None or first <= crews.now), default=0)
+        if crew not in found:
+            found[crew] = windows(off, crew, crews.now, until)
+        longest = max((last - first for first, last in found[crew] if begun is None or first <= crews.now), default=0)
         if crew and rest > longest:
             faults.faults.append(f"{called(activity)}: it takes longer than all that it needs is there at a time, and "
                                  "activities run without a break; write an activity for each shift")
