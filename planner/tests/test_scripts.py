@@ -138,8 +138,8 @@ class Batch(InFolder):
 
     @unittest.skipUnless(shutil.which("parallel"), "GNU parallel isn't here")
     def test_gnu_parallel(self) -> None:
-        """The command line of docs/PLANNER.md, with the plan and the psmax that are tested."""
-        documented = (TOP / "docs" / "PLANNER.md").read_text()
+        """The command line of docs/BATCHES.md, with the plan and the psmax that are tested."""
+        documented = (TOP / "docs" / "BATCHES.md").read_text()
         line = next(line for line in documented.splitlines() if line.startswith("parallel "))
         join = next(line for line in documented.splitlines() if line.startswith("plan batch --join"))
         python = f"{pathlib.Path(sys.executable).parent}:{PLAN.parent}:{os.environ['PATH']}"
