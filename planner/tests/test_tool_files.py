@@ -64,6 +64,7 @@ class ToolFiles(InFolder):
         """The same numbers, but for the order of lags and those that follow from others; the same names and dates."""
         self.assertEqual(numbers(one), numbers(other))
         self.assertEqual((one.names.activities, one.names.resources), (other.names.activities, other.names.resources))
+        self.assertEqual(one.names.ids or {**other.names.ids}, other.names.ids)
         self.assertEqual((one.groups, begins(one)), (other.groups, begins(other)))
 
     def test_what_is_said(self) -> None:

@@ -258,6 +258,6 @@ def read(text: str, project: Parts) -> None:
             own[link.before].end if link.from_end else own[link.before].start)
         project.lag(before, point, at_most=link.minutes // document.minutes)
     Limits(document, project, own).add()
-    project.groups = document.outline.groups()
+    project.groups, project.ids = document.outline.groups(), document.outline.ids()
     must_fit(project, document, lambda activity: f"task '{short(activity.name)}'")
     document.tell()

@@ -4,15 +4,15 @@ import re
 from collections.abc import Iterable
 from dataclasses import dataclass, field
 from graphlib import CycleError, TopologicalSorter
-from xml.etree.ElementTree import Element, SubElement
+from xml.etree.ElementTree import Element
 
 from ..errors import BadInput
 from ..letters import short
 from ..model import Activity, Lag, Parts, Point
+from .mspdi_outline import texts_of_field
 from .tool_file import Gathering, is_said
-from .xml_tree import text_of
 
-FIELD, NAME, ALIAS = "188744016", "Text30", "maximum lags"  # by which Microsoft Project knows the field
+FIELD = "maximum lags"
 LONGEST = 255  # signs of a field
 ENTRY = re.compile(r"(\d{1,9})([FS])([FS])<=(-?\d{1,9}) min")
 WHOLE = 0  # the project, whose start a lag may count from
@@ -105,14 +105,6 @@ def add(found: Ties, lag: Lag) -> None:
         found.links.setdefault(after, []).append(lag)
 
 
-def add_field(project: Element, ties: Ties) -> None:
-    """That there is this field, where some task has it."""
-    if ties.most:
-        one = SubElement(SubElement(project, "ExtendedAttributes"), "ExtendedAttribute")
-        for name, text in (("FieldID", FIELD), ("FieldName", NAME), ("Alias", ALIAS)):
-            SubElement(one, name).text = text
-
-
 def entries(project: Parts, activity: Activity, lags: Iterable[Lag], minutes: int) -> str:
     """What the field of a task holds."""
     found = []
@@ -143,15 +135,11 @@ def note(project: Parts, lags: Iterable[Lag], minutes: int) -> str:
 
 
 def read_entries(project: Element, task: Element) -> list[tuple[str, bool, bool, int]]:
-    """From which task, from and to its end or not, and how many minutes at most; by the name of the field."""
-    fields = {text_of(one, "FieldID") for one in project.findall("ExtendedAttributes/ExtendedAttribute")
-              if text_of(one, "Alias") == ALIAS}
+    """From which task, from and to its end or not, and how many minutes at most."""
     found = list[tuple[str, bool, bool, int]]()
-    for one in task.findall("ExtendedAttribute"):
-        if text_of(one, "FieldID") in fields:
-            for part in (text_of(one, "Value") or "").split(";"):
-                entry = ENTRY.fullmatch(part.strip())
-                if entry is None and part.strip():
-                    raise BadInput(f"the field '{ALIAS}' is not such as '4FS<=480 min': '{short(part)}'")
-                found += [(entry[1], entry[2] == "F", entry[3] == "F", int(entry[4]))] if entry else []
+    for part in ";".join(texts_of_field(project, task, FIELD)).split(";"):
+        entry = ENTRY.fullmatch(part.strip())
+        if entry is None and part.strip():
+            raise BadInput(f"the field '{FIELD}' is not such as '4FS<=480 min': '{short(part)}'")
+        found += [(entry[1], entry[2] == "F", entry[3] == "F", int(entry[4]))] if entry else []
     return found

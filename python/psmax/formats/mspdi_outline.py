@@ -1,8 +1,9 @@
 """The tasks of an MSPDI file in their outline: which have work of their own, and which are summaries of those below."""
 from collections import Counter
+from collections.abc import Iterable
 from dataclasses import dataclass, field
 from functools import cached_property
-from xml.etree.ElementTree import Element
+from xml.etree.ElementTree import Element, SubElement
 
 from ..errors import BadInput
 from ..letters import printable, short
@@ -11,6 +12,8 @@ from ..project import MOST_ACTIVITIES
 from .xml_tree import text_of
 
 WHOLE = "0"  # the UID of the task that stands for the whole project
+# Fields of tasks that plan adds, by their names: the numbers and the names by which Microsoft Project knows them.
+FIELDS = {"maximum lags": ("188744016", "Text30"), "ID": ("188744015", "Text29")}
 
 
 @dataclass(frozen=True)
@@ -41,6 +44,28 @@ def outline_of(project: Parts) -> list[OutlineRow]:
             numbers.append(0)
         put(activity)
     return found
+
+
+def add_fields(project: Element, names: Iterable[str]) -> None:
+    """That the file has these fields."""
+    fields = SubElement(project, "ExtendedAttributes")
+    for alias in names:
+        one, (number, name) = SubElement(fields, "ExtendedAttribute"), FIELDS[alias]
+        for tag, text in (("FieldID", number), ("FieldName", name), ("Alias", alias)):
+            SubElement(one, tag).text = text
+
+
+def add_field(task: Element, name: str, text: str) -> None:
+    one = SubElement(task, "ExtendedAttribute")
+    SubElement(one, "FieldID").text, SubElement(one, "Value").text = FIELDS[name][0], text
+
+
+def texts_of_field(project: Element, task: Element, name: str) -> list[str]:
+    """What a task has in a field of this name, whichever number it has in the file."""
+    fields = {text_of(one, "FieldID") for one in project.findall("ExtendedAttributes/ExtendedAttribute")
+              if text_of(one, "Alias") == name}
+    return [text_of(one, "Value") or "" for one in task.findall("ExtendedAttribute")
+            if text_of(one, "FieldID") in fields]
 
 
 @dataclass
@@ -86,6 +111,11 @@ class Outline:
                 for one in open_ones:
                     found[one].append(uid)
         return found
+
+    def ids(self) -> dict[int, str]:
+        """Those of a field, by the numbers that the tasks get, where each task has one of its own."""
+        found = [printable(" ".join(texts_of_field(self.root, task, "ID"))) for task in self.tasks.values()]
+        return dict(enumerate(found, 1)) if all(found) and len({*found}) == len(found) else {}
 
     def groups(self) -> list[Group]:
         """The summaries with the tasks below them, by the numbers that these get."""

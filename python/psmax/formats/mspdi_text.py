@@ -13,8 +13,8 @@ from ..project import least_starts
 from ..work_time import WorkTime
 from .mspdi import ENDS, SPACE, TENTHS, Document
 from .mspdi_calendar import BASE, add_calendar, add_resource_calendar
-from .mspdi_lags import FIELD, Ties, add_field, entries, note, ties_of
-from .mspdi_outline import OutlineRow, outline_of
+from .mspdi_lags import FIELD, Ties, entries, note, ties_of
+from .mspdi_outline import OutlineRow, add_field, add_fields, outline_of
 from .tool_file import Dates, Gathering, dates_of
 from .xml_tree import parsed, put, text_of, written
 
@@ -40,7 +40,9 @@ def write(project: Parts) -> str:
              "MinutesPerDay": f"{sum(ends - begins for begins, ends in parts)}",
              "StatusDate": "" if project.status is None else stamp(dates.begins(project.status))}
     add(root, {name: text for name, text in texts.items() if text})
-    add_field(root, ties)
+    fields = ([FIELD] if ties.most else []) + (["ID"] if project.ids else [])
+    if fields:
+        add_fields(root, fields)
     add_calendars(root, project, dates.time)
     tasks, times = SubElement(root, "Tasks"), soonest(project, dates)
     for row in outline_of(project):
@@ -113,8 +115,9 @@ def add_row(task: Element, row: OutlineRow, project: Parts, ties: Ties, dates: D
     for lag in ties.links.get(number, []):
         add(SubElement(task, "PredecessorLink"), link(lag, dates.minutes))
     if most:
-        add(SubElement(task, "ExtendedAttribute"),
-            {"FieldID": FIELD, "Value": entries(project, one, most, dates.minutes)})
+        add_field(task, FIELD, entries(project, one, most, dates.minutes))
+    if number in project.ids:
+        add_field(task, "ID", project.ids[number])
 
 
 def done(project: Parts, activity: Activity, dates: Dates) -> dict[str, str]:
