@@ -224,9 +224,7 @@ def lags_only(project: Project, arcs: list[Arc]) -> Project:
 def least_starts(project: Project) -> list[int] | None:
     """The least start of each activity by the lags alone; none where they contradict each other: then the start of the
     project has to be later, or an activity is put later more often than there are activities."""
-    leaving: list[list[Arc]] = [[] for _ in project.durations]
-    for arc in project.rules():
-        leaving[arc.tail].append(arc)
+    leaving = by_tail(project)
     least: list[float] = [0, *[-float("inf")] * project.end]
     turns, waits, moves = deque([0]), [False] * len(least), [0] * len(least)
     while turns:
@@ -241,6 +239,14 @@ def least_starts(project: Project) -> list[int] | None:
                     waits[head], moves[head] = True, moves[head] + 1
                     turns.append(head)
     return [int(start) for start in least]
+
+
+def by_tail(project: Project) -> list[list[Arc]]:
+    """The rules that leave each activity."""
+    found: list[list[Arc]] = [[] for _ in project.durations]
+    for arc in project.rules():
+        found[arc.tail].append(arc)
+    return found
 
 
 def least_end(project: Project, starts: Mapping[int, int]) -> int:

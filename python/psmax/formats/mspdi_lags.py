@@ -42,13 +42,19 @@ def ties_of(project: Parts, faults: Gathering) -> Ties:
             if lag.at_most is not None:
                 most = Lag(lag.before, lag.after, None, lag.at_most)
                 found.most.setdefault(lag.after.activity.number, []).append(most)
-    for lag in links:
-        found.links.setdefault(lag.after.activity.number, []).append(lag)
-    if is_circular(found.links):
-        found.links = {}
-        for lag in links:
-            add(found, lag)
+    add_links(found, links)
     return found
+
+
+def add_links(found: Ties, links: Iterable[Lag]) -> None:
+    """Where some close a circle, one after the other."""
+    has_circle = is_circular(links)
+    for lag in links:
+        if has_circle and leads(found, lag.after.activity.number, lag.before.activity.number):
+            most = Lag(lag.after, lag.before, None, negative(lag.at_least))
+            found.most.setdefault(lag.before.activity.number, []).append(most)
+        else:
+            found.links.setdefault(lag.after.activity.number, []).append(lag)
 
 
 def must_not(point: Point, what: str) -> BadInput:
@@ -82,27 +88,25 @@ def negative(value: int | None) -> int | None:
     return None if value is None else -value
 
 
-def is_circular(links: dict[int, list[Lag]]) -> bool:
-    graph = {number: {lag.before.activity.number for lag in own} for number, own in links.items()}
+def is_circular(links: Iterable[Lag]) -> bool:
+    graph = TopologicalSorter[int]()
+    for lag in links:
+        graph.add(lag.after.activity.number, lag.before.activity.number)
     try:
-        TopologicalSorter(graph).prepare()
+        graph.prepare()
     except CycleError:
         return True
     return False
 
 
-def add(found: Ties, lag: Lag) -> None:
-    """A link, where no other ones lead from its end to its start; else what it says the other way round."""
-    before, after = lag.before.activity.number, lag.after.activity.number
-    seen, open_ones = {before}, [before]
-    while open_ones and after not in seen:
+def leads(found: Ties, first: int, last: int) -> bool:
+    """Whether links lead from one activity to another."""
+    seen, open_ones = {last}, [last]
+    while open_ones and first not in seen:
         above = {one.before.activity.number for one in found.links.get(open_ones.pop(), [])} - seen
         seen |= above
         open_ones += above
-    if after in seen:
-        found.most.setdefault(before, []).append(Lag(lag.after, lag.before, None, negative(lag.at_least)))
-    else:
-        found.links.setdefault(after, []).append(lag)
+    return first in seen
 
 
 def entries(project: Parts, activity: Activity, lags: Iterable[Lag], minutes: int) -> str:
