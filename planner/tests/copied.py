@@ -26,13 +26,14 @@ def begin(words: Sequence[str]) -> subprocess.Popen[bytes]:
 
 def run(words: Sequence[str], env: Mapping[str, str]) -> NoReturn:
     """What `subprocess` calls in the child before a program, which never comes. Closing what else is open tells the parent that
-    the child runs. What the tests have put off until their end is theirs."""
+    the child runs; from then on it may be sent a signal, which must not be for the handlers of the parent. What the tests have
+    put off until their end is theirs."""
+    end_at_once()
     os.closerange(3, os.sysconf("SC_OPEN_MAX"))
     atexit._clear()
     weakref.finalize._registry.clear()  # type: ignore[attr-defined]
     thread._threads_queues.clear()  # type: ignore[attr-defined]
     tempfile.tempdir = None
-    end_at_once()
     signal.signal(signal.SIGPIPE, signal.SIG_IGN)
     os.environ.update(env)
     batch.begin = begin

@@ -18,8 +18,8 @@ CREW = ("title;Halle\nab;26.03.2026\nArbeitstage;Mo-Fr\nArbeitszeit;08:00-12:00,
 # By hand: twelve hours from Thursday on end on Friday noon, and eight more on Monday noon, in summer time.
 TIMES = [("Aushub", "2026-03-26 08:00", "2026-03-27 12:00"), ("Abnahme", "2026-03-27 12:00", ""),
          ("Pflaster", "2026-03-27 13:00", "2026-03-30 12:00")]
-GROUPED = ("from,2026-03-02 06:00\nshift,00:00-24:00\nID,WBS,name,hours,Predecessors,crew (2)\n1,1,Unit A,,,\n2,1.1,dig,5,,1\n"
-           "3,1.2,pour,3,\"2FS+2 h,2FS<9 h\",2\n")
+GROUPED = ("from,2026-03-02 06:00\nshift,00:00-24:00\nID,WBS,name,hours,Predecessors,crew (2)\n1,1,Unit A,,,\n"
+           "2,1.1,dig,5,,1\n3,1.2,pour,3,\"2FS+2 h,2FS<9 h\",2\n")
 KHAL = """[calendars]
 [[plan]]
 path = {0}/cal

@@ -1,4 +1,5 @@
-"""A table as a file of Microsoft Project or Primavera: it is the same project again, or what the file can't say is told."""
+"""A table as a file of Microsoft Project or Primavera: it is the same project again, or what the file can't say is
+told."""
 import datetime
 import itertools
 import pathlib

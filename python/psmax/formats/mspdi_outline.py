@@ -120,8 +120,9 @@ class Outline:
     def groups(self) -> list[Group]:
         """The summaries with the tasks below them, by the numbers that these get."""
         numbers = {uid: number for number, uid in enumerate(self.tasks, 1)}
-        return [Group(printable(text_of(self.all[uid], "Name") or f"task {uid}"), range(numbers[own[0]], numbers[own[-1]] + 1))
-                for uid, own in self.below.items() if own and uid != WHOLE]
+        found = {uid: range(numbers[own[0]], numbers[own[-1]] + 1) for uid, own in self.below.items()
+                 if own and uid != WHOLE}
+        return [Group(printable(text_of(self.all[uid], "Name") or f"task {uid}"), own) for uid, own in found.items()]
 
     @cached_property
     def names(self) -> dict[str, str]:

@@ -98,12 +98,13 @@ def add_row(task: Element, row: OutlineRow, project: Parts, ties: Ties, dates: D
     """An activity, or a summary, whose UIDs come behind those."""
     one, number = row.one, row.one.number if isinstance(row.one, Activity) else len(project.activities) + row.place
     minutes = one.duration * dates.minutes if isinstance(one, Activity) else 0
-    add(task, {"UID": f"{number}", "ID": f"{row.place}", "Name": one.name, "WBS": row.number, "OutlineNumber": row.number,
-               "OutlineLevel": f"{row.number.count('.') + 1}"})
+    add(task, {"UID": f"{number}", "ID": f"{row.place}", "Name": one.name, "WBS": row.number,
+               "OutlineNumber": row.number, "OutlineLevel": f"{row.number.count('.') + 1}"})
     if isinstance(one, Group):
         add(task, {"Summary": "1"})
         return
-    add(task, {"Duration": length(minutes), "DurationFormat": DAYS, "Milestone": f"{int(minutes == 0)}", "Summary": "0"})
+    add(task, {"Duration": length(minutes), "DurationFormat": DAYS, "Milestone": f"{int(minutes == 0)}",
+               "Summary": "0"})
     add(task, done(project, one, dates))
     for lag in ties.limits.get(number, []):
         add(task, constraint(lag, dates))
@@ -140,7 +141,8 @@ def constraint(lag: Lag, dates: Dates) -> dict[str, str]:
     time = lag.at_most if lag.at_least is None else lag.at_least
     if time is None or time < lag.after.is_end:
         raise BadInput(f"activity '{short(lag.after.activity.name)}': MSPDI has no date before the project starts")
-    return {"ConstraintType": kind, "ConstraintDate": stamp(dates.ended(time) if lag.after.is_end else dates.begins(time))}
+    at = dates.ended(time) if lag.after.is_end else dates.begins(time)
+    return {"ConstraintType": kind, "ConstraintDate": stamp(at)}
 
 
 def link(lag: Lag, minutes: int) -> dict[str, str]:
@@ -160,8 +162,8 @@ def add_resources(root: Element, project: Parts, dates: Dates) -> None:
     pairs = [(activity.number, one.number + 1, units) for activity in project.activities
              for one, units in activity.demands.items() if units]
     for number, (task, resource, units) in enumerate(pairs, 1):
-        add(SubElement(assignments, "Assignment"), {"UID": f"{number}", "TaskUID": f"{task}", "ResourceUID": f"{resource}",
-                                                    "Units": f"{units}"})
+        add(SubElement(assignments, "Assignment"), {"UID": f"{number}", "TaskUID": f"{task}",
+                                                    "ResourceUID": f"{resource}", "Units": f"{units}"})
 
 
 def add_availability(resource: Element, one: Resource, absences: Sequence[Absence], dates: Dates) -> None:
@@ -172,7 +174,8 @@ def add_availability(resource: Element, one: Resource, absences: Sequence[Absenc
         away = sum(one.units for one in absences if one.begins <= begins and (one.ends is None or begins < one.ends))
         add(SubElement(periods, "AvailabilityPeriod"), {
             "AvailableFrom": stamp(dates.begins(begins)) if begins else EVER[0],
-            "AvailableTo": EVER[1] if ends is None else stamp(dates.begins(ends)), "AvailableUnits": f"{one.capacity - away}"})
+            "AvailableTo": EVER[1] if ends is None else stamp(dates.begins(ends)),
+            "AvailableUnits": f"{one.capacity - away}"})
 
 
 def replanned(text: str, schedule: Schedule) -> str:

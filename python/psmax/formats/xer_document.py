@@ -91,8 +91,9 @@ class Document(Gathering):
                 inner.setdefault(uid, []).append(number)
                 seen.add(uid)
                 uid = cell(rows[uid], "parent_wbs_id")
-        return [Group(printable(cell(row, "wbs_name") or cell(row, "wbs_short_name")), range(inner[uid][0], inner[uid][-1] + 1))
-                for uid, row in rows.items() if uid in inner and inner[uid][-1] - inner[uid][0] == len(inner[uid]) - 1]
+        whole = {uid: range(own[0], own[-1] + 1) for uid, own in inner.items() if own[-1] - own[0] == len(own) - 1}
+        return [Group(printable(cell(row, "wbs_name") or cell(row, "wbs_short_name")), whole[uid])
+                for uid, row in rows.items() if uid in whole]
 
     def is_complete(self, uid: str) -> bool:
         return cell(self.activities[uid], "status_code") == COMPLETE
