@@ -22,7 +22,7 @@ EXAMPLES, DOCS = TOP / "examples", TOP / "docs"
 CHANGED = (EXAMPLES / "hall-changed.csv").read_text()
 WRONG = CHANGED.replace("fix gutters,2", "fix gutters,two")
 SHORT = CHANGED.replace("14,hired for 15 days", "6,hired for 7 days")
-SIZE, REPORT, DAILY = (1200, 1160), (1400, 1000), (900, 640)
+SIZE, REPORT, DAILY = (1200, 1073), (1400, 913), (900, 553)
 FRIDAY = "turnaround-friday.csv"
 REST = 1.0  # seconds in which the page draws
 
