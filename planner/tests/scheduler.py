@@ -3,8 +3,11 @@ import importlib.util
 import multiprocessing
 import os
 import pathlib
+import sys
 from collections.abc import Mapping
 from multiprocessing.process import BaseProcess
+from types import ModuleType
+from unittest import mock
 
 MISSING = "Dask isn't here: install python3-distributed"
 COMMANDS = {"scheduler": "distributed.cli.dask_scheduler", "worker": "distributed.cli.dask_worker"}
@@ -21,8 +24,10 @@ def is_here() -> bool:
 
 
 def started(folder: pathlib.Path, env: Mapping[str, str], command: str, *words: str) -> BaseProcess:
+    """It reads nothing of the program that runs the tests."""
     child = SERVER.Process(target=run, args=(folder, env, command, words))
-    child.start()
+    with mock.patch.dict(sys.modules, {"__main__": ModuleType("__main__")}):
+        child.start()
     return child
 
 
