@@ -40,7 +40,6 @@ def long() -> Texts:
         for suffix in SUFFIXES:
             yield f"{name}.{suffix}", filled(piece)
     yield "ole.mpp", b"\xd0\xcf\x11\xe0\xa1\xb1\x1a\xe1" + bytes(LONG)
-    yield "zip.xlsx", b"PK\3\4" + bytes(LONG)
 
 
 def tables() -> Texts:
@@ -96,7 +95,8 @@ def exports() -> Texts:
 
 
 def spreadsheets(book: bytes) -> Texts:
-    """The file, in which a part has much in little room."""
+    """What is no such file, and the file, in which a part has much in little room."""
+    yield "zip.xlsx", b"PK\3\4" + bytes(LONG)
     sheet, end = b"<worksheet xmlns='%s'><sheetData>" % SPACE, b"</sheetData></worksheet>"
     cell = b"<row><c t='inlineStr'><is>"
     for name, part, begin, piece, stop in (

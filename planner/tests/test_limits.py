@@ -14,6 +14,7 @@ from psmax.files import without_blank_rows
 from psmax.process_limits import limited
 
 from . import hostile_texts
+from .browser import DEBIAN
 from .helpers import CALLED, INPUTS, TOP, InFolder, plan
 from .hostile_texts import HEADS, LONG, XER, XML, filled
 from .test_spreadsheets import book, is_here, saved
@@ -42,7 +43,8 @@ for words in map(json.loads, sys.stdin):
 class Hostile(InFolder):
     def look(self, texts: hostile_texts.Texts, *before: object) -> None:
         """Hands each text to `plan check` behind these words, in one process."""
-        env = {**os.environ, **CALLED, "PYTHONPATH": str(TOP / "python")}
+        found = [str(TOP / "python"), *(path for path in sys.path if path == DEBIAN)]
+        env = {**os.environ, **CALLED, "PYTHONPATH": os.pathsep.join(found)}
         with subprocess.Popen([sys.executable, "-c", LOOK], text=True, env=env, stdin=subprocess.PIPE,
                               stdout=subprocess.PIPE) as looks:
             assert looks.stdin is not None and looks.stdout is not None
