@@ -8,6 +8,7 @@ import subprocess
 import tempfile
 from dataclasses import dataclass
 
+import harness
 import judges
 import measuring
 import verify
@@ -21,6 +22,7 @@ from .values import Row, claim
 
 PROGRAM = TOP / "release" / "psprove"
 EVER = 1_000_000_000  # seconds: conflicts end a search, so that it is the same on any machine
+TRIM_SECONDS = 3_600.0
 SMALL = 20_000  # bytes; below that a record stands in the repository
 
 
@@ -69,13 +71,18 @@ class Search:
 
 
 def search(program: pathlib.Path, text: bytes, limit: int) -> Search:
+    """What a search finds. Its record is trimmed."""
     with tempfile.TemporaryDirectory() as folder:
-        record = pathlib.Path(folder) / "record"
+        project, record = (pathlib.Path(folder) / name for name in ("project", "record"))
+        project.write_bytes(text)
         words = [program, "solve", "--json", "--conflicts", limit, "--seconds", EVER, "--record", record]
         ran = measuring.run(words, text)
         if ran.status not in (0, 3) or not record.exists():
             raise Failed(f"{program} solve: exit status {ran.status}")
-        return Search(json.loads(ran.out), record.read_bytes(), ran.processor)
+        status, trimmed, _ = harness.ended([program, "trim", "--project", project], record.read_bytes(), TRIM_SECONDS)
+        if status != 0:
+            raise Failed(f"{program} trim: exit status {status}")
+        return Search(json.loads(ran.out), trimmed, ran.processor)
 
 
 def told(ended: tuple[int | None, bytes, bytes]) -> str:

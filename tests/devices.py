@@ -270,8 +270,8 @@ def limited_files(calls: Calls) -> Tried:
                     wanted, record = (1, out, calls.fault("cannot write")), call.record[:room]
                 else:
                     wanted, record = call.usual, call.record
-                is_whole = calls.name == "psmax" or wanted == call.usual
-                is_left = run.record() == record if is_whole else (run.record(), run.part()) == (b"", record)
+                part = record if calls.name == "psprove" else b""
+                is_left = run.record() == record if wanted == call.usual else (run.record(), run.part()) == (b"", part)
                 yield call, f"files of {room} bytes", ended == wanted and is_left, ended
 
 
@@ -284,7 +284,7 @@ def limited_files_of_several(calls: Calls) -> Tried:
                     code, _, told = run.ended(stdout=stdout, preexec_fn=lambda: limit_files(room))
                 ended: Ended = code, (run.folder / "out").read_bytes(), told
                 is_refused = (code, told) == (1, calls.fault("cannot write")) and len(ended[1]) <= room
-                is_left = calls.name == "psmax" or run.record() == b"" and len(run.part()) <= room
+                is_left = run.record() == b"" and len(run.part()) <= (room if calls.name == "psprove" else 0)
                 well = is_refused and is_left or call.is_usual(ended, run.record())
                 yield call, f"files of {room} bytes", well, ended
 

@@ -3,8 +3,9 @@
 
 Hands each command of psmax, or with --proofs of psprove, a file that it reads and writes, or writes twice: for each
 option that reads with each that writes, by the same name, by a symbolic link and by a second name. The command has to
-be refused, and no file may have changed. Then a part of a record or of an export of psprove is there, and has to
-stay. And both go where a link leads, with the mode of the older one. The last line counts what was tried."""
+be refused, and no file may have changed. Then a part of a record or of an export is there, and has to stay; so has an
+older record after a call that has none. And both go where a link leads, with the mode of the older one, which a part has
+from the beginning. The last line counts what was tried."""
 import itertools
 import os
 import pathlib
@@ -25,6 +26,7 @@ CUBE, LEMMAS = "a file in --tree", "lemmas"
 TEXTS = {"--project": PROJECT, INPUT: PROJECT, "--start": STARTS, "--guide": STARTS, "--under": b"1 2 3\n",
          "--import": b"", "--tree": b"", "--resume": b"", "--until": b"", CUBE: b"", LEMMAS: b""}
 OLD = b"older\n"
+DELETE = b"hint: delete it\n"
 
 
 class Command(NamedTuple):
@@ -43,7 +45,7 @@ OF_PSMAX = (
     Command(("tidy",), (INPUT,)),
     Command(("check",), (INPUT, "--project")),
     Command(("verify",), (INPUT, "--project")),
-    Command(("solve",), (INPUT, "--start"), ("--record",)),
+    Command(("solve",), (INPUT, "--start"), ("--record", PART)),
 )
 OF_PSPROVE = (
     Command(("verify",), (INPUT, "--project")),
@@ -139,12 +141,24 @@ def both_written(one: str, other: str, is_there: bool) -> Look:
     return look
 
 
-def part_stays(text: bytes) -> Look:
+def record_stays(text: bytes, status: int, *words: str) -> Look:
+    """An older record stays where a call has none, and nothing lies beside it then."""
+    def look(program: str, here: pathlib.Path) -> str | None:
+        (here / "record").write_bytes(OLD)
+        (here / "starts").write_bytes(b"0 0\n1 0\n2 0\n3 7\n")  # the jobs run at once
+        ended = harness.ended([program, "solve", *words, "--record", "record"], text, cwd=here)
+        (here / "starts").unlink()
+        if ended[0] != status:
+            return f"ends with {ended}"
+        return None if shown(here) == {"record": OLD} else "files have changed"
+    return look
+
+
+def part_stays(text: bytes, hint: bytes) -> Look:
     """A part that is there is not touched, whatever comes on standard input."""
     def look(program: str, here: pathlib.Path) -> str | None:
         (here / "record.part").write_bytes(OLD)
         ended = harness.ended([program, "solve", "--record", "record"], text, cwd=here)
-        hint = b"hint: go on from it by --resume record.part and another --record, or delete it\n"
         wanted = (2, b"", b"error: record.part is there: a search left it, or writes it now\n" + hint)
         if ended != wanted:
             return f"ends with {ended}"
@@ -163,7 +177,7 @@ def cube_search(program: str, here: pathlib.Path) -> harness.Ended:
 def part_of_export_stays(program: str, here: pathlib.Path) -> str | None:
     """The call is refused before it searches."""
     (here / "lemmas.part").write_bytes(OLD)
-    said = b"error: lemmas.part is there: a search left it, or writes it now\nhint: delete it\n"
+    said = b"error: lemmas.part is there: a search left it, or writes it now\n" + DELETE
     if (ended := cube_search(program, here)) != (2, b"", said):
         return f"ends with {ended}"
     return None if sorted(shown(here)) == ["lemmas.part", "path", "project"] else "files have changed"
@@ -183,19 +197,23 @@ def export_through_a_link(program: str, here: pathlib.Path) -> str | None:
 
 
 def second_search(program: str, here: pathlib.Path) -> str | None:
-    """Of two searches with one record the second is refused, and the first goes on."""
-    words = [program, "solve", "--record", "record", "--until", "end"]
+    """Of two searches with one record the second is refused, and the first goes on. Its part has the mode of an older one."""
+    words, part = [program, "solve", "--record", "record", "--until", "end"], here / "record.part"
     (here / "project").write_bytes(LONG)
+    (here / "record").touch(0o600)
     with open(here / "project", "rb") as given, subprocess.Popen(
             words, cwd=here, stdin=given, stdout=subprocess.PIPE) as first:
         end = time.monotonic() + harness.TIMEOUT
-        while time.monotonic() < end and not (here / "record.part").exists():
+        while time.monotonic() < end and not (part.exists() and part.stat().st_size):
             time.sleep(0.01)
+        mode = part.stat().st_mode & 0o777
         status = harness.ended(words, LONG, cwd=here)[0]
         (here / "end").touch()
         out, _ = first.communicate(timeout=harness.TIMEOUT)
     if (status, first.returncode) != (2, 3):
         return f"they end with {first.returncode} and {status}"
+    if mode != 0o600:
+        return f"the part has mode {mode:o}"
     bound = out.split(b"\n")[0].split()[-1]
     said = judges.by_program(program, here / "project", (here / "record").read_bytes())
     return None if said == (0, b"proved bound %s\n" % bound, b"") else f"its record proves {said}"
@@ -231,19 +249,23 @@ def refusals(commands: Sequence[Command]) -> Iterator[tuple[str, Look]]:
 
 def looks(is_psprove: bool) -> Iterator[tuple[str, Look]]:
     yield from refusals(OF_PSPROVE if is_psprove else OF_PSMAX)
+    hint = b"hint: go on from it by --resume record.part and another --record, or delete it\n" if is_psprove else DELETE
+    yield "a part stays", part_stays(PROJECT, hint)
+    yield "a part stays where there is no project", part_stays(b"x\n", hint)
+    yield "a record stays where there is no project", record_stays(b"x\n", 2)
+    yield "a record stays where starts are refused", record_stays(PROJECT, 4, "--start", "starts")
+    yield "through a link", through_a_link(True)
+    yield "through a link to nothing", through_a_link(False)
     if not is_psprove:
+        yield "a record stays where a limit stops the search", record_stays(LONG, 3, "--nodes", "9")
         return
     for one, other in itertools.combinations((ANSWER, PART, "--record", "--export"), 2):
         for is_there in (True, False):
             if (one, other) != (PART, "--record") and (is_there or one != ANSWER):
                 yield f"cube: {one}, {other}, {is_there}", both_written(one, other, is_there)
-    yield "a part stays", part_stays(PROJECT)
-    yield "a part stays where there is no project", part_stays(b"x\n")
     yield "a part of an export stays", part_of_export_stays
     yield "an export through a link", export_through_a_link
     yield "two searches", second_search
-    yield "through a link", through_a_link(True)
-    yield "through a link to nothing", through_a_link(False)
 
 
 def verdicts(words: Sequence[str]) -> Verdicts:

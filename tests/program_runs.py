@@ -19,15 +19,15 @@ PARTS = ("lemmas.part", "record.part")  # in the order in which a run looks for 
 
 
 class Task(NamedTuple):
-    """The words of a run, what is there before it, which of these files it writes, and which of those in place: it empties
-    such a file before it writes it, so that one which is interrupted is a beginning of the new one."""
+    """The words of a run, what is there before it, which of these files it writes, and whether a search goes on from what is
+    left of its record."""
 
     program: str
     words: list[str]
     before: Mapping[str, bytes]
     project: bytes = PROJECT
     writes: tuple[str, ...] = ("record",)
-    in_place: tuple[str, ...] = ()
+    resumes: bool = True
 
 
 class Record(Run):
@@ -36,7 +36,7 @@ class Record(Run):
     def __init__(self, name: str, folder: Path, task: Task) -> None:
         super().__init__(folder)
         self.name, self.task, self.before = name, task, task.before
-        self.words, self.is_kept, self.is_cube = [task.program, *task.words], not task.in_place, "--under" in task.words
+        self.words = [task.program, *task.words]
         self.given = self.project = folder / "project"
         self.project.write_bytes(task.project)
         self.fill()
@@ -54,13 +54,13 @@ class Record(Run):
         data = self.holds(name)
         if data is None or data != old and name not in self.task.writes:
             return f"{name} is lost" if data is None else f"{name} is read alone, and has changed"
-        if data == old or name in self.task.in_place and self.whole[name].startswith(data):
+        if data == old:
             return None
         return None if self.is_right(name, data, partial(self.is_whole, name)) else f"{name} is neither what it was nor whole"
 
     def is_whole(self, name: str, data: bytes) -> bool:
-        """A record proves what it claims. Nobody judges the log of a cube and its lemmas, which come again."""
-        return data == self.whole[name] if self.is_cube else self.proves(data)
+        """A record proves what it claims. A tree, and what the search of a cube writes, comes again."""
+        return self.proves(data) if self.task.resumes else data == self.whole[name]
 
     def proves(self, data: bytes, is_cut: bool = False) -> bool:
         return judges.by_program(self.task.program, self.project, data, is_cut)[0] == 0
@@ -71,13 +71,13 @@ class Record(Run):
         return None if is_right else f"{name} is no beginning of a file"
 
     def is_part(self, name: str, data: bytes) -> bool:
-        """Those of a cube prove nothing alone."""
-        return self.whole[name].startswith(data) if self.is_cube else self.proves(data, is_cut=True)
+        """Those of a tree and of a cube prove nothing alone."""
+        return self.proves(data, is_cut=True) if self.task.resumes else self.whole[name].startswith(data)
 
     def goes_on(self) -> str | None:
         for part in PARTS:
             if self.holds(part) is not None:
-                fault = self.fault_of_second(part) or (None if self.is_cube else self.fault_of_resume(part))
+                fault = self.fault_of_second(part) or (self.fault_of_resume(part) if self.task.resumes else None)
                 (self.there / part).unlink()
                 if fault is not None:
                     return fault
@@ -131,11 +131,11 @@ def export(folder: Path, psmax: str, psprove: str) -> Task:
     words = ["solve", "--project", "project.sch", "--under", "path", "--import", "1.given", "--conflicts", CONFLICTS,
              "--export", "lemmas", "--record", "record"]
     before = {**searched(folder, psprove), "record": OLD, "lemmas": OLD}
-    return Task(psprove, words, before, writes=("record", "lemmas"))
+    return Task(psprove, words, before, writes=("record", "lemmas"), resumes=False)
 
 
 def tree(folder: Path, psmax: str, psprove: str) -> Task:
-    return Task(psmax, ["solve", "--record", "record"], {"record": OLD}, SMALL, in_place=("record",))
+    return Task(psmax, ["solve", "--record", "record"], {"record": OLD}, SMALL, resumes=False)
 
 
 TASKS: dict[str, Callable[[Path, str, str], Task]] = {

@@ -7,7 +7,7 @@ from collections.abc import Iterator, Sequence
 
 import verify
 from verify import Rows
-from verify_log import Arc, Claim, Clique, Drop, Event, Force, Ledger, Lemma, Line, Load, Push, Schedule, Use, are_rivals
+from verify_log import Arc, Block, Claim, Clique, Drop, Event, Force, Ledger, Lemma, Line, Load, Push, Schedule, Use, are_rivals
 from verify_log import reverse, with_arc
 
 Pair = tuple[int, int]
@@ -97,7 +97,7 @@ class Prover:
     # ---- a lemma
 
     def is_new(self, rows: Rows, line: Line) -> bool:
-        arc = self.ledger.shown(rows, line)
+        arc = self.ledger.shown(Block(rows), line)
         return arc is not None and rows[arc[0]][arc[1]] < arc[2]
 
     def candidates(self, rows: Rows) -> Iterator[Line]:
@@ -109,7 +109,7 @@ class Prover:
         for line in self.candidates(rows):
             if new is not None and self.is_new(new, line):
                 lines.append(line)
-                new = with_arc(new, self.ledger.shown(new, line) or (0, 0, 1))
+                new = with_arc(new, self.ledger.shown(Block(new), line) or (0, 0, 1))
         return new
 
     def propagated(self, arcs: Sequence[Arc]) -> tuple[Rows | None, list[Line]]:

@@ -8,7 +8,6 @@ from 1, and the title is event 0. With --partial a log that is cut proves what h
 to be right. The log is read event by event: only the lemmas that are live are kept.
 """
 import argparse
-import functools
 import itertools
 import sys
 from collections.abc import Callable, Iterable, Iterator, Sequence
@@ -246,15 +245,51 @@ def with_arc(rows: Rows | None, arc: Arc) -> Rows | None:
     return [over(row) for row in rows]
 
 
+class Block:
+    """The weights by the arcs of the root and by those of a block. Few rows are asked for, so each is made when it is."""
+
+    def __init__(self, root: Rows | None) -> None:
+        self.root, self.is_dead = root or [], root is None
+        self.arcs: list[tuple[Arc, list[int]]] = []  # each with the row of its end before it came
+        self.rows: dict[int, tuple[list[int], int]] = {}  # by activity: its row by so many of these arcs
+
+    def row(self, a: int) -> list[int]:
+        row, count = self.rows.get(a, (self.root[a], 0))
+        for (i, j, v), ways in self.arcs[count:]:
+            first = row[i] + v
+            if first > row[j]:
+                row = [x if x >= first + y else first + y for x, y in zip(row, ways)]
+        self.rows[a] = row, len(self.arcs)
+        return row
+
+    def weight(self, a: int, b: int) -> int:
+        return self.row(a)[b]
+
+    def implies(self, arc: Arc) -> bool:
+        i, j, v = arc
+        return self.root[i][j] >= v or self.weight(i, j) >= v
+
+    def add(self, arc: Arc) -> None:
+        """Adds an arc. The block is dead if that closes a positive walk."""
+        i, j, v = arc
+        if self.is_dead:
+            return
+        ways = self.row(j)
+        self.is_dead = ways[i] + v > 0
+        if not self.implies(arc):
+            self.arcs.append((arc, ways))
+
+
 def reverse(arc: Arc) -> Arc:
     i, j, v = arc
     return j, i, 1 - v
 
 
-def with_reverse(rows: Rows, arc: Arc) -> Weight:
+def with_reverse(block: Block, arc: Arc) -> Weight:
     """An entry of the weights with the arc's reverse, which closes no positive walk."""
     i, j, v = arc
-    return lambda a, b: max(rows[a][b], rows[a][j] + 1 - v + rows[i][b])
+    ways = block.row(i)
+    return lambda a, b: max(block.weight(a, b), block.weight(a, j) + 1 - v + ways[b])
 
 
 # ---- what a line shows of a block that closes no positive walk, by an entry of its weights
@@ -328,47 +363,48 @@ class Ledger:
     def deadline(self) -> Arc:
         return self.project.end, 0, 1 - self.ceiling
 
-    def used(self, rows: Rows, slot: int) -> Arc | None:
+    def used(self, block: Block, slot: int) -> Arc | None:
         """The reverse of the arc that a lemma leaves, if all others are implied."""
         if slot not in self.lemmas:
             return None
         lemma = self.lemmas[slot]
-        left = [(i, j, v) for i, j, v in lemma if rows[i][j] < v]
+        left = list(itertools.islice(itertools.filterfalse(block.implies, lemma), 2))
         return None if len(left) > 1 else reverse((left or lemma)[0])
 
-    def forced(self, rows: Rows, a: int, b: int) -> Arc | None:
-        is_forced = are_rivals(self.project, a, b) and rows[a][b] > -self.project.durations[b]
+    def forced(self, block: Block, a: int, b: int) -> Arc | None:
+        is_forced = are_rivals(self.project, a, b) and block.weight(a, b) > -self.project.durations[b]
         return (a, b, self.project.durations[a]) if is_forced else None
 
-    def pushed(self, rows: Rows, over: Load | Clique, arc: Arc | None) -> Arc | None:
+    def pushed(self, block: Block, over: Load | Clique, arc: Arc | None) -> Arc | None:
         if arc is None:
-            return (0, 0, 1) if is_overload(self.project, lambda a, b: rows[a][b], over) else None
+            return (0, 0, 1) if is_overload(self.project, block.weight, over) else None
         if not is_arc(self.project, arc):
             return None
-        is_implied = rows[arc[0]][arc[1]] >= arc[2]
-        return arc if is_implied or is_overload(self.project, with_reverse(rows, arc), over) else None
+        return arc if block.implies(arc) or is_overload(self.project, with_reverse(block, arc), over) else None
 
-    def shown(self, rows: Rows, line: Line) -> Arc | None:
+    def shown(self, block: Block, line: Line) -> Arc | None:
         """The arc that the line shows, which is met by each schedule in question that meets those of the block."""
         match line:
             case Use(slot):
-                return self.used(rows, slot)
+                return self.used(block, slot)
             case Force(before, after):
-                return self.forced(rows, before, after)
+                return self.forced(block, before, after)
             case Push(over, arc):
-                return self.pushed(rows, over, arc)
+                return self.pushed(block, over, arc)
 
     def is_refuted(self, arcs: Iterable[Arc], lines: Iterable[Line]) -> bool:
         """Whether lines show that no schedule in question meets all these arcs."""
-        rows = functools.reduce(with_arc, arcs, self.rows)
+        block = Block(self.rows)
+        for arc in arcs:
+            block.add(arc)
         for line in lines:
-            if rows is None:
+            if block.is_dead:
                 return True
-            arc = self.shown(rows, line)
-            if arc is None:
+            shown = self.shown(block, line)
+            if shown is None:
                 return False
-            rows = with_arc(rows, arc)
-        return rows is None
+            block.add(shown)
+        return block.is_dead
 
     def lemma(self, slot: int, arcs: list[Arc], lines: Iterable[Line]) -> bool:
         has_room = len(arcs) < 2 or slot < SLOTS and slot not in self.lemmas

@@ -1,14 +1,16 @@
-//! The command line as both programs have it: options by `clap`, the command `verify`, and what they print of a call that
-//! has no answer.
+//! The command line as both programs have it: options by `clap`, the command `verify`, files that are written beside their
+//! names first, and what is printed of a call that has no answer.
 #![tactic(auto)]
 
 mod arguments;
 mod help;
 mod options;
+mod part_file;
 mod program;
 mod verifying;
 
 pub use arguments::{ArgumentsFault, file_name, matches_of};
 pub use options::{file, flag, heading, number, program_command, project_subcommand, subcommand};
-pub use program::{FOLDER, read_arguments, refuse, refuse_file, refuse_files, report};
+pub use part_file::PartFile;
+pub use program::{FOLDER, read_arguments, refuse, refuse_file, refuse_files, refuse_part, report};
 pub use verifying::{VerifyCall, verify, verify_call, verify_command};

@@ -64,16 +64,19 @@ pub fn refuse_file<R: Eprint>(rt: &R, program: &str, name: &str) -> ExitCode {
     ExitCode::from(1)
 }
 
-/// Prints that a part of a record is there, and how to go on from it.
-fn refuse_part<R: Eprint>(rt: &R, part: &str) -> ExitCode {
+/// Prints that a part of a file is there, and what to do: a search may go on from it, or not.
+pub fn refuse_part<R: Eprint>(rt: &R, part: &str, resumes: bool) -> ExitCode {
     let _ = eprintln!(rt; "error: {part} is there: a search left it, or writes it now");
-    let _ = eprintln!(rt;
-        "hint: go on from it by --resume {part} and another --record, or delete it"
-    );
+    let _ = match resumes {
+        true => eprintln!(rt;
+            "hint: go on from it by --resume {part} and another --record, or delete it"
+        ),
+        false => eprintln!(rt; "hint: delete it"),
+    };
     ExitCode::from(2)
 }
 
-/// Prints why the files of a call are not open.
+/// Prints why the files of a call are not open. No search goes on from a part that is there.
 pub fn refuse_files<R: Eprint>(
     rt: &R,
     program: &str,
@@ -86,7 +89,7 @@ pub fn refuse_files<R: Eprint>(
             let _ = eprintln!(rt; "error: {one} and {other} name the same file");
             ExitCode::from(2)
         }
-        FileFault::Part => refuse_part(rt, names.record_file.unwrap_or("")),
+        FileFault::Part => refuse_part(rt, names.record_file.unwrap_or(""), false),
         FileFault::Second => refuse_file(rt, program, names.second.unwrap_or("")),
         FileFault::Record => {
             let name = names.record_name.or(names.record_file);

@@ -36,8 +36,9 @@ Reads a project on standard input. Prints one of these answers. If it has a sche
 
 --start reads the starts after the project. If they are not a feasible schedule, psmax prints
 their violations as 'psmax check' does, and does not search.
---record empties FILE first. After the answer 'optimal C' or 'no schedule' it writes a record of
-the search into FILE, which 'psmax verify' checks.
+--record writes a record of the search, which 'psmax verify' checks, after the answer 'optimal C'
+or 'no schedule'. It is written into FILE.part and takes the place of FILE once it is whole; without
+such an answer FILE stays as it is.
 --start and --record use one worker unless --workers is given. Without these three options, one
 thread searches depth first.
 

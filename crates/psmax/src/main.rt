@@ -9,12 +9,14 @@ ghost use Rattle.std.specs.Prelude.{◌≡◌, false, true, IfOk};
 mod call;
 mod commands;
 mod help;
+mod record;
 
 use call::{Call, PsmaxCall};
 use command_line::{ArgumentsFault, FOLDER, read_arguments, refuse, refuse_files, report, verify};
 use commands::call_of;
 use devices::{InputReader, Opener, OutputWriter};
 use psmax_run::{SearchOptions, run, run_parallel};
+use record::{end_record, record_of};
 use std::alloc::Global;
 use std::process::ExitCode;
 use std::rt::Runtime;
@@ -54,24 +56,40 @@ fn search<R: Runtime + Threads + Wait + Sync>(
     requires job { IsJob (jobs.Solve options) }
     requires workers { has_workers (jobs.Solve options) ≡ true }
 {
-    let names = call.file_names();
+    let named = call.file_names();
+    let record = match record_of(rt, alloc, &named) {
+        Ok(record) => record,
+        Err(fault) => return refuse_files(rt, PROGRAM, &named, fault),
+    };
+    let names = match &record {
+        Some(record) => record.join(named),
+        None => named,
+    };
     let mut files = match Opener::new(alloc, rt).open(&names) {
         Ok(files) => files,
         Err(fault) => return refuse_files(rt, PROGRAM, &names, fault),
     };
-    let mut input = InputReader::new(rt.reader());
-    let mut out = OutputWriter::new(io::writer(rt));
+    if let Some(record) = &record {
+        record.keep_mode(rt);
+    }
     let ended = run_parallel(
         rt,
         alloc,
         options,
-        &mut input,
+        &mut InputReader::new(rt.reader()),
         &mut files.second,
-        &mut out,
+        &mut OutputWriter::new(io::writer(rt)),
         &mut files.record_file,
         &OpenGate,
     );
-    report(rt, PROGRAM, &ended)
+    let status = report(rt, PROGRAM, &ended);
+    match record {
+        Some(record) => {
+            let file = files.record_file.map(|file| file.into_inner());
+            end_record(rt, &record, file, &ended)
+        }
+        None => status,
+    }
 }
 
 /// The call that the words of the command line make.

@@ -43,6 +43,8 @@ pub(crate) enum Subcommand {
     Verify(VerifyCall),
     Solve(SolveCall),
     Cube(CubeCall),
+    /// Of a record of the project in this file.
+    Trim(String),
 }
 
 /// The most pieces of a cube.
@@ -141,10 +143,12 @@ fn join_command<'a>(alloc: Global, heading: &'a str) -> Result<Command<'a>, Allo
 }
 
 fn commands<'a>(alloc: Global, heading: &'a str) -> Result<Vec<Command<'a>>, AllocError> {
-    let mut commands = Vec::with_capacity(alloc, 3)?;
+    let trim = "Trim the record on standard input to what its claim rests on";
+    let mut commands = Vec::with_capacity(alloc, 4)?;
     commands.push_reserved(solve_command(alloc, heading)?);
     commands.push_reserved(verify_command(alloc, heading)?);
     commands.push_reserved(join_command(alloc, heading)?);
+    commands.push_reserved(project_subcommand(alloc, heading, "trim", trim, help::TRIM)?);
     Ok(commands)
 }
 
@@ -259,6 +263,10 @@ fn found_work(
     match matches.subcommand() {
         Some(("solve", found)) => Ok(Some(solve_of(alloc, found)?)),
         Some(("join", found)) => Ok(Some(Subcommand::Solve(join_of(alloc, found)?))),
+        Some(("trim", found)) => {
+            let project = needed_name(alloc, found, "project")?;
+            Ok(Some(Subcommand::Trim(project)))
+        }
         Some(("verify", found)) => Ok(verify_call(alloc, found)?.map(Subcommand::Verify)),
         _ => Ok(None),
     }

@@ -2,15 +2,14 @@
 
 use crate::PROGRAM;
 use crate::failure::Failure;
-use crate::files::bytes_of;
+use crate::files::{bytes_of, part_file};
 use crate::following::Heard;
 use crate::json_lines::cube_line;
-use crate::part_file::PartFile;
 use crate::program::Program;
 use crate::reports::{ReportForm, Reporter};
-use command_line::refuse_files;
+use command_line::{PartFile, refuse_files, refuse_part};
 use cube_text::{CubeLemma, lemmas_of, path_of};
-use devices::{Ended, Fault, FileNames, InputReader, Judged, Opener, judged_starts, read_project};
+use devices::{Fault, FileNames, InputReader, Judged, Opener, judged_starts, read_project};
 use network::{Lag, Project, Schedule};
 use session::{Cube, CubeResult, Limits, search_cube};
 use std::alloc::Global;
@@ -97,7 +96,7 @@ fn answer<'w, R: Runtime>(
     found: &CubeResult,
 ) -> Result<u8, Failure<'w>> {
     if let Some(name) = &call.export {
-        let written = PartFile::of(rt, alloc, name)?.write(rt, found.lemmas.as_bytes());
+        let written = part_file(rt, alloc, name)?.write(rt, found.lemmas.as_bytes());
         written.map_err(|error| Failure::of_file(&error, name))?;
     }
     let line = cube_line(alloc, found)?;
@@ -127,12 +126,16 @@ fn make_log<'w, R: Files + Eprint>(
     rt: &R,
     alloc: Global,
     call: &'w CubeCall,
-    names: &FileNames<'_>,
+    record: &PartFile,
 ) -> Result<R::File, Failure<'w>> {
-    match Opener::new(alloc, rt).open_record(names) {
-        Ok(Some(file)) => Ok(file.into_inner()),
+    let names = names_of(call, record);
+    match Opener::new(alloc, rt).open_record(&names) {
+        Ok(Some(file)) => {
+            record.keep_mode(rt);
+            Ok(file.into_inner())
+        }
         Ok(None) => Err(Failure::File(&call.record)),
-        Err(fault) => Err(Failure::Printed(refuse_files(rt, PROGRAM, names, fault))),
+        Err(fault) => Err(Failure::Printed(refuse_files(rt, PROGRAM, &names, fault))),
     }
 }
 
@@ -182,17 +185,17 @@ fn search<'w, R: Runtime + Wait>(
         lemmas: &lemmas,
         pieces: call.pieces,
     };
-    let mut file = make_log(rt, alloc, call, &names_of(call, record))?;
+    let mut file = make_log(rt, alloc, call, record)?;
     match search_into(rt, alloc, call, cube, &mut file, heard) {
         Ok(found) => Ok((answer(rt, alloc, call, &found)?, file)),
         Err(failure) => {
-            record.leave(rt);
+            record.remove_empty(rt);
             Err(failure)
         }
     }
 }
 
-/// Finds no part of the export: it would be written over.
+/// Finds no part of the export, which is made last.
 fn find_no_part<'w, R: Runtime>(
     rt: &R,
     alloc: Global,
@@ -201,14 +204,11 @@ fn find_no_part<'w, R: Runtime>(
     let Some(name) = &call.export else {
         return Ok(());
     };
-    let export = PartFile::of(rt, alloc, name)?;
-    let Some(part) = export.left(rt) else {
-        return Ok(());
-    };
-    let _ = eprintln!(rt;
-        "error: {part} is there: a search left it, or writes it now\nhint: delete it"
-    );
-    Err(Failure::Printed(ExitCode::from(2)))
+    let export = part_file(rt, alloc, name)?;
+    match export.find(rt) {
+        Some(part) => Err(Failure::Printed(refuse_part(rt, part, false))),
+        None => Ok(()),
+    }
 }
 
 /// Solves a cube. Its log takes its name once it is whole.
@@ -218,12 +218,12 @@ pub(crate) fn solve_cube<'w, R: Runtime + Wait>(
     call: &'w CubeCall,
     heard: &'w Mutex<Heard>,
 ) -> Result<ExitCode, Failure<'w>> {
-    let record = PartFile::of(rt, alloc, &call.record)?;
+    let record = part_file(rt, alloc, &call.record)?;
     let names = names_of(call, &record);
     if let Err(fault) = Opener::new(alloc, rt).check(&names) {
         return Ok(refuse_files(rt, PROGRAM, &names, fault));
     }
     find_no_part(rt, alloc, call)?;
     let (exit, file) = search(rt, alloc, call, &record, heard)?;
-    Ok(record.settle(rt, Some(file), &Ended { exit, fault: None }))
+    Ok(record.finish(rt, PROGRAM, Some(file), exit))
 }

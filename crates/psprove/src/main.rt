@@ -9,10 +9,10 @@ mod files;
 mod following;
 mod help;
 mod json_lines;
-mod part_file;
 mod program;
 mod reports;
 mod solve;
+mod trim;
 
 use command_line::{FOLDER, refuse, report, verify};
 use commands::{Subcommand, work_of};
@@ -26,6 +26,7 @@ use std::process::ExitCode;
 use std::rt::Runtime;
 use std::sync::Arc;
 use std::{fs, thread};
+use trim::trim;
 use verify_run::RecordKind;
 
 /// The program's name in what it prints.
@@ -50,7 +51,7 @@ fn status_of<R: Runtime>(rt: &R, done: Result<ExitCode, Failure<'_>>) -> ExitCod
 /// Whether work follows what standard input tells while it goes on.
 fn follows(work: &Subcommand) -> bool {
     match work {
-        Subcommand::Verify(_) => false,
+        Subcommand::Verify(_) | Subcommand::Trim(_) => false,
         Subcommand::Solve(call) => call.follow,
         Subcommand::Cube(call) => call.follow,
     }
@@ -81,5 +82,6 @@ fn main(rt: HostRuntime) -> ExitCode {
         Subcommand::Verify(call) => verify(&rt, PROGRAM, alloc, RecordKind::Lemmas, call),
         Subcommand::Solve(call) => status_of(&rt, solve(&rt, alloc, call, &mine)),
         Subcommand::Cube(call) => status_of(&rt, solve_cube(&rt, alloc, call, &mine)),
+        Subcommand::Trim(project) => status_of(&rt, trim(&rt, alloc, project)),
     }
 }

@@ -2,12 +2,12 @@
 
 use crate::PROGRAM;
 use crate::failure::Failure;
+use crate::files::part_file;
 use crate::following::Heard;
-use crate::part_file::PartFile;
 use crate::program::Program;
 use crate::reports::ReportForm;
-use command_line::{refuse_files, report};
-use devices::{Ended, FileNames, InputReader, Opener, OutputWriter};
+use command_line::{PartFile, refuse_files, refuse_part, report};
+use devices::{Ended, FileFault, FileNames, InputReader, Opener, OutputWriter};
 use either::Either;
 use psprove_run::SolveOptions;
 use std::alloc::Global;
@@ -88,6 +88,32 @@ fn status_of<R: Runtime>(
     }
 }
 
+/// The exit status of starts that are no schedule: there is no record then.
+const REFUSED: u8 = 4;
+
+/// A record that was written whole takes its name. Otherwise its part stays, with what was proved, if there is something in
+/// it. The exit status.
+fn end_record<R: Runtime>(
+    rt: &R,
+    record: &PartFile,
+    file: Option<R::File>,
+    ended: &Ended,
+) -> ExitCode {
+    if ended.fault.is_some() || ended.exit == REFUSED {
+        record.remove_empty(rt);
+        return ExitCode::from(ended.exit);
+    }
+    record.finish(rt, PROGRAM, file, ended.exit)
+}
+
+/// Prints why the files of a call are not open. A search goes on from a part of a record.
+fn refuse<R: Runtime>(rt: &R, names: &FileNames<'_>, fault: FileFault) -> ExitCode {
+    match (fault, names.record_file) {
+        (FileFault::Part, Some(part)) => refuse_part(rt, part, true),
+        _ => refuse_files(rt, PROGRAM, names, fault),
+    }
+}
+
 /// Solves a project, or joins logs of cubes. The record has its name then, if it is whole.
 pub(crate) fn solve<'w, R: Runtime + Threads + Wait + Sync>(
     rt: &'w R,
@@ -96,7 +122,7 @@ pub(crate) fn solve<'w, R: Runtime + Threads + Wait + Sync>(
     heard: &'w Mutex<Heard>,
 ) -> Result<ExitCode, Failure<'w>> {
     let record = match &call.record {
-        Some(name) => Some(PartFile::of(rt, alloc, name)?),
+        Some(name) => Some(part_file(rt, alloc, name)?),
         None => None,
     };
     let mut program = Program::new(rt, alloc, call, heard)?;
@@ -104,8 +130,11 @@ pub(crate) fn solve<'w, R: Runtime + Threads + Wait + Sync>(
     let project = open_project(rt, call)?;
     let files = match Opener::new(alloc, rt).open(&names) {
         Ok(files) => files,
-        Err(fault) => return Ok(refuse_files(rt, PROGRAM, &names, fault)),
+        Err(fault) => return Ok(refuse(rt, &names, fault)),
     };
+    if let Some(record) = &record {
+        record.keep_mode(rt);
+    }
     let mut input = InputReader::new(match project {
         None => Either::Left(rt.reader()),
         Some(file) => Either::Right(file),
@@ -124,7 +153,10 @@ pub(crate) fn solve<'w, R: Runtime + Threads + Wait + Sync>(
     );
     let status = status_of(rt, call, program.wrong_event, &ended);
     Ok(match record {
-        Some(record) => record.settle(rt, record_file.map(|file| file.into_inner()), &ended),
+        Some(record) => {
+            let file = record_file.map(|file| file.into_inner());
+            end_record(rt, &record, file, &ended)
+        }
         None => status,
     })
 }
