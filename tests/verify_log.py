@@ -246,7 +246,7 @@ def with_arc(rows: Rows | None, arc: Arc) -> Rows | None:
 
 
 class Block:
-    """The weights by the arcs of the root and by those of a block. Few rows are asked for, so each is made when it is."""
+    """The weights by the arcs of the root and those of a block. Few rows are asked for, so each is made when it is."""
 
     def __init__(self, root: Rows | None) -> None:
         self.root, self.is_dead = root or [], root is None
@@ -272,12 +272,9 @@ class Block:
     def add(self, arc: Arc) -> None:
         """Adds an arc. The block is dead if that closes a positive walk."""
         i, j, v = arc
-        if self.is_dead:
-            return
-        ways = self.row(j)
-        self.is_dead = ways[i] + v > 0
-        if not self.implies(arc):
-            self.arcs.append((arc, ways))
+        if not self.is_dead and not self.implies(arc):
+            self.is_dead = self.weight(j, i) + v > 0
+            self.arcs.append((arc, self.row(j)))
 
 
 def reverse(arc: Arc) -> Arc:
