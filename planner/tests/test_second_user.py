@@ -41,16 +41,17 @@ def is_owned(pid):
     except OSError:
         return False
 print("begun", flush=True)
-while not select.select([0], [], [], 0.002)[0]:
+while not select.select([0], [], [], 0.01)[0]:
     waiting = os.listdir(waits)
     for pid in filter(is_owned, os.listdir("/proc")):
         for name in ("cmdline", "environ", "comm"):
             look("processes", f"/proc/{pid}/{name}")
     for name in waiting:
         os.unlink(os.path.join(waits, name))
-    for place, _, names in os.walk(folder):
-        for name in names:
-            look("files", os.path.join(place, name))
+    paths = (os.path.join(place, name) for place, _, names in os.walk(folder) for name in names)
+    for path in paths:
+        if not os.path.islink(path):  # to a Python of many megabytes
+            look("files", path)
 print(json.dumps({kind: sorted(texts) for kind, texts in seen.items()}))
 """
 

@@ -1,14 +1,18 @@
 """The resources of a .xer file whose calendars have other hours than the activities'. They matter to the activities
 that depend on their resources."""
+from collections.abc import Container
+
 from ..crew_hours import WEEK, Hours, is_within, of_week
 from ..dates import read_shift
 from ..errors import BadInput
 from ..letters import short
+from ..project import MOST_RESOURCES
 from .mspdi import calendar_of
 from .xer_document import Document, called
 from .xer_tables import Row, cell
 
 MATERIAL, DEPENDS = "RT_Mat", "TT_Rsrc"
+MOST_ASSIGNED = 1_000  # resources of which it is looked whether they are needed
 
 
 def resources_of(document: Document) -> dict[str, Row]:
@@ -20,27 +24,38 @@ def named(resource: Row) -> str:
     return f"resource '{short(cell(resource, 'rsrc_name') or cell(resource, 'rsrc_short_name'))}'"
 
 
-def crew_hours(document: Document) -> dict[str, Hours]:
-    """By the resources' IDs."""
-    found: dict[str, Hours] = {}
-    for uid, row in resources_of(document).items():
-        own = cell(row, "clndr_id")
-        if own in document.calendars and document.hours(own) != document.hours(document.calendar_id):
-            with document.kept():
-                if is_needed_in_its_calendar(document, uid, row):
-                    found[uid] = hours_in(document, own, named(row))
+def activities_of(document: Document, resources: Container[str]) -> dict[str, list[Row]]:
+    """Those that have work left, by the IDs of these resources, which are assigned to them."""
+    found: dict[str, list[Row]] = {}
+    for row in document.rows("TASKRSRC"):
+        uid, task = cell(row, "rsrc_id"), cell(row, "task_id")
+        if uid in resources and document.remaining.get(task):
+            found.setdefault(uid, []).append(document.activities[task])
+    if len(found) > MOST_ASSIGNED:
+        raise BadInput(f"{len(found):,} resources are assigned, and a project has at most {MOST_RESOURCES}")
     return found
 
 
-def is_needed_in_its_calendar(document: Document, uid: str, row: Row) -> bool:
-    """Whether activities work in it. All that need the resource have to, then."""
-    tasks = [cell(one, "task_id") for one in document.rows("TASKRSRC") if cell(one, "rsrc_id") == uid]
-    rows = [document.activities[one] for one in tasks if document.remaining.get(one)]
+def crew_hours(document: Document) -> dict[str, Hours]:
+    """By the resources' IDs."""
+    found: dict[str, Hours] = {}
+    known = resources_of(document)
+    for uid, rows in activities_of(document, known).items():
+        own = cell(known[uid], "clndr_id")
+        if own in document.calendars and document.hours(own) != document.hours(document.calendar_id):
+            with document.kept():
+                if is_needed_in_its_calendar(rows, named(known[uid])):
+                    found[uid] = hours_in(document, own, named(known[uid]))
+    return found
+
+
+def is_needed_in_its_calendar(rows: list[Row], name: str) -> bool:
+    """Whether these activities work in the calendar of a resource. All that need it have to, then."""
     others = [one for one in rows if cell(one, "task_type") != DEPENDS]
     if len(others) < len(rows) and others:
-        raise BadInput(f"{called(others[0])}: it needs {named(row)} in the activities' calendar, and others that depend "
+        raise BadInput(f"{called(others[0])}: it needs {name} in the activities' calendar, and others that depend "
                        "on it in its own; a resource has one here")
-    return bool(rows) and not others
+    return not others
 
 
 def hours_in(document: Document, uid: str, name: str) -> Hours:

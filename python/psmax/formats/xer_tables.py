@@ -4,6 +4,7 @@ import datetime
 import re
 from collections.abc import Iterator
 from fractions import Fraction
+from itertools import islice
 
 from ..errors import BadInput
 from ..letters import short
@@ -12,9 +13,11 @@ Row = dict[str, str]
 HEAD, TABLE, COLUMNS, CELLS, LAST = "ERMHDR", "%T", "%F", "%R", "%E"
 # What is read. Texts of other tables may go on in the next line.
 READ = {"CALENDAR", "PROJECT", "PROJWBS", "RSRC", "RSRCRATE", "SCHEDOPTIONS", "TASK", "TASKPRED", "TASKRSRC"}
+NAMED = re.compile(r"\n%T(?![^\t\r\n])(?:\t([^\t\r\n]*))?[^\n]*")  # the line with the name of a table
+END = re.compile(r"\n%E(?![^\t\r\n])")  # where a file ends
 NUMBER = re.compile(r"-?(\d{1,9}([.,]\d{0,12})?|[.,]\d{1,12})")
 FIRST_YEAR, LAST_YEAR = 1900, 2200  # of dates
-MOST_COLUMNS, MOST_CELLS = 1_000, 500_000  # of a table, and of all tables that are read
+MOST_TABLES, MOST_COLUMNS, MOST_CELLS = 1_000, 1_000, 500_000  # of a file, of a table, and of all tables that are read
 HOUR = 60
 NEAR = Fraction(1, 100)  # of a minute, since hours have six digits behind the point
 
@@ -22,29 +25,46 @@ NEAR = Fraction(1, 100)  # of a minute, since hours have six digits behind the p
 def read_tables(text: str) -> dict[str, list[Row]]:
     """The rows of each table that is read."""
     found: dict[str, list[Row]] = {}
-    name, columns, count = "", list[str](), 0
-    for number, line in enumerate(lines_of(text), 1):
-        mark, *cells = line.removesuffix("\r").split("\t", MOST_COLUMNS + 1)
-        count += len(cells) if name in READ else 0
-        if len(cells) > MOST_COLUMNS or count > MOST_CELLS:
-            raise BadInput(f"line {number}: a table has at most {MOST_COLUMNS:,} columns, and what is read of a file at most "
-                           f"{MOST_CELLS:,} cells")
-        if mark == LAST:
-            return found
-        if mark == TABLE:
-            name, columns = cells[0].strip() if cells else "", []
-        elif mark == COLUMNS:
+    count = 0
+    for number, name, lines in tables_of(text):
+        count += lines.count("\n") + lines.count("\t")
+        if count > MOST_CELLS:
+            raise BadInput(f"line {number}: what is read of a file has at most {MOST_CELLS:,} cells")
+        found.setdefault(name, []).extend(rows_of(number, name, lines))
+    return found
+
+
+def tables_of(text: str) -> Iterator[tuple[int, str, str]]:
+    """Each table that is read: the number of the line with its name, the name, and what stands below. Others are passed over,
+    whatever their texts are."""
+    if not text.startswith(HEAD):
+        raise BadInput(f"the file does not begin with {HEAD}")
+    end = END.search(text)
+    if end is None:
+        raise BadInput("the file has no %E at its end, so it was cut off")
+    marks = [*islice(NAMED.finditer(text, 0, end.start()), MOST_TABLES + 1)]
+    if len(marks) > MOST_TABLES:
+        raise BadInput(f"a file has at most {MOST_TABLES:,} tables")
+    number, place = 1, 0
+    for mark, stop in zip(marks, [*(mark.start() for mark in marks[1:]), end.start()]):
+        number, place, name = number + text.count("\n", place, mark.end()), mark.end(), (mark[1] or "").strip()
+        if name in READ:
+            yield number, name, text[place:stop]
+
+
+def rows_of(number: int, name: str, lines: str) -> Iterator[Row]:
+    """The rows of a table that is named in the line of this number."""
+    columns = list[str]()
+    for line, text in enumerate(lines.split("\n")[1:], number + 1):
+        mark, *cells = text.removesuffix("\r").split("\t", MOST_COLUMNS + 1)
+        if len(cells) > MOST_COLUMNS:
+            raise BadInput(f"line {line}: a table has at most {MOST_COLUMNS:,} columns")
+        if mark == COLUMNS:
             columns = cells
-        elif name in READ and mark == CELLS:
-            found.setdefault(name, []).append(row_of(number, name, columns, cells))
-        elif name in READ and line.strip():
-            raise BadInput(f"line {number}: neither a row of {name} nor a table: '{short(line)}'")
-    raise BadInput("the file has no %E at its end, so it was cut off")
-
-
-def lines_of(text: str) -> Iterator[str]:
-    """The lines one after another, since a long text may have millions."""
-    return (found[1] for found in re.finditer("([^\n]*)(?:\n|$)", text))
+        elif mark == CELLS:
+            yield row_of(line, name, columns, cells)
+        elif text.strip():
+            raise BadInput(f"line {line}: neither a row of {name} nor a table: '{short(text)}'")
 
 
 def row_of(line: int, name: str, columns: list[str], cells: list[str]) -> Row:

@@ -6,6 +6,7 @@ from ..errors import BadInput
 from ..letters import short
 
 DEEPEST, MOST, MOST_NAMES = 64, 500_000, 10_000  # levels, elements, and their names with those of attributes
+MOST_SIGNS = 2 * MOST  # with which tags begin, counted before anything is made of them
 PIECE, LONGEST = 1 << 16, 1 << 20  # bytes that are read at once, and of a tag with its attributes or of a text
 HEAD = '<?xml version="1.0" encoding="UTF-8" standalone="yes"?>\n'
 
@@ -41,6 +42,8 @@ def refused(*_: object) -> None:
 
 
 def parsed(text: str) -> Element:
+    if text.count("<") > MOST_SIGNS:
+        raise BadInput(f"the XML has more than {MOST_SIGNS:,} signs <")
     builder, parser = Limited(), expat.ParserCreate("utf-8")
     parser.buffer_text = True
     parser.StartDoctypeDeclHandler = parser.EntityDeclHandler = refused

@@ -138,6 +138,8 @@ def read_heads(file: str, sheet: Sheet, faults: Faults) -> Columns:
                 raise fault_at(file, sheet.head_row, place, head, f"a second column for the {found.value}")
             elif found is not None:
                 columns.places[found] = place
+    if len(columns.resources) > MOST_RESOURCES:
+        faults.tell()  # before the demands for each are read
     missing = [f"{file}: row {sheet.head_row} has no column for the {kind.value}, such as '{example}'"
                for kind, example in ((Column.NAME, "activity"), (Column.DURATION, "days")) if kind not in columns.places]
     if missing:  # which a column of the planner's own may be

@@ -89,18 +89,22 @@ def separator_of(text: str, names_columns: Callable[[list[str]], bool]) -> str:
 @lru_cache(maxsize=2)
 def split(file: str, text: str, separator: str) -> list[list[str]]:
     """Of a text once, however often it is looked at; nobody changes what it is."""
+    found = csv.reader(io.StringIO(text, newline=""), delimiter=separator, strict=True)
     try:
-        found = csv.reader(io.StringIO(text, newline=""), delimiter=separator, strict=True)
-        rows = [[plain(shown(one.strip())) for one in row] for row in found]
+        return [cells_of(file, number, row) for number, row in enumerate(found, 1)]
     except (csv.Error, ValueError) as fault:
         raise BadInput(f"{file}: not a table in CSV: {fault}") from None
-    for number, row in enumerate(rows, 1):
-        long = next((place for place, one in enumerate(row) if len(one) > MOST_SIGNS), None)
-        if long is not None:
-            raise BadInput(f"{file}: row {number}, column {letters(long)}: a cell has at most {MOST_SIGNS:,} signs")
-        if any(row[MOST_COLUMNS:]):
-            raise BadInput(f"{file}: row {number}: a table has at most {MOST_COLUMNS:,} columns, and this one {len(row):,}")
-    return rows
+
+
+def cells_of(file: str, number: int, row: list[str]) -> list[str]:
+    """Those of a row of this number, as they are read."""
+    if len(row) > MOST_COLUMNS and any(one.strip() for one in row[MOST_COLUMNS:]):
+        raise BadInput(f"{file}: row {number}: a table has at most {MOST_COLUMNS:,} columns, and this one {len(row):,}")
+    cells = [plain(shown(one.strip())) for one in row]
+    long = next((place for place, one in enumerate(cells) if len(one) > MOST_SIGNS), None)
+    if long is not None:
+        raise BadInput(f"{file}: row {number}, column {letters(long)}: a cell has at most {MOST_SIGNS:,} signs")
+    return cells
 
 
 def must_be_small(file: str, text: str, separators: Iterable[str]) -> None:

@@ -240,10 +240,12 @@ class Reading:
         activities = Activities(self.names, self.ids(), names, ids, self.durations, self.planned)
         if cuts is not None:
             cuts.name(activities)
-        lags, number = Lags(activities), 0
+        lags, number, more = Lags(activities), 0, dict[int, list[Row]]()
+        for row, place in self.more:
+            more.setdefault(place, []).append(row)
         for place, row in enumerate(self.named):
             number += place not in self.groups
-            for one in [row, *(more for more, above in self.more if above == place)]:
+            for one in [row, *more.get(place, [])]:
                 if place in self.groups:
                     self.must_be_group(one)
                     lags.read(one, Side(self.parts[place].activities, is_group=True), self.faults)
