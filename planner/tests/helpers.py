@@ -119,6 +119,7 @@ class InFolder(unittest.TestCase):
     """A test with a new folder of its own."""
 
     def setUp(self) -> None:
+        self.enterContext(mock.patch("psmax.process_limits.begin", copied.begin_answer))
         kept = tempfile.TemporaryDirectory()
         self.addCleanup(kept.cleanup)
         self.folder = pathlib.Path(kept.name)

@@ -17,6 +17,7 @@ TASK = "%R\t{0}\t1\t1\tA{0}\tn{0}\t8\tTT_Task\n"
 NEEDS = "%T\tTASKRSRC\n%F\ttask_id\tproj_id\trsrc_id\ttarget_qty_per_hr\n"
 WEEK = "(0||CalendarData()((0||DaysOfWeek()((0||2()((0||0(s|08:00|f|16:00)())))))(0||Exceptions()({}))))"
 PLAIN = f"{CALENDARS}%R\t1\t\t{WEEK.format('')}\n"
+OWN = f"%R\t2\t\t{WEEK.format('').replace('16:00', '15:00')}\n"  # another calendar
 
 Texts = Iterator[tuple[str, str | bytes]]
 
@@ -76,18 +77,18 @@ def elements() -> Texts:
     yield "flat.xml", XML + filled("<a/>")
     yield "deep.xml", XML + filled("<a>")
     yield "text.xml", XML + filled("x")
-    yield "attributes.xml", "<Project " + numbered('a{}="" ', 1_200_000) + "/>"
+    yield "attributes.xml", "<Project " + numbered('a{}="" ', 120_000) * 12 + "/>"
     yield "comment.xml", "<Project><!--" + filled("x")
-    yield "tags.xml", XML + numbered("<a{}/>", 1_400_000)
+    yield "tags.xml", XML + numbered("<a{}/>", 20_000) * 80
     yield "entities.xml", f"{ENTITIES}{XML}<Name>&a8;</Name></Project>"
 
 
 def exports() -> Texts:
     yield "fields.xer", f"{XER}%T\tTASK\n%F\t" + filled("a\t") + "\n%E\n"
-    yield "rows.xer", XER + TASKS + numbered(TASK, 300_000) + "%E\n"
+    yield "rows.xer", XER + TASKS + numbered(TASK, 30_000) * 10 + "%E\n"
     yield "other.xer", f"{XER}%T\tOTHER\n" + filled("%R\t\n") + "%E\n"
-    yield "needs.xer", XER + PLAIN + "%T\tRSRC\n%F\trsrc_id\trsrc_name\n" + numbered("%R\t{0}\tr{0}\n", 50_000) \
-        + TASKS + TASK.format(1) + NEEDS + numbered("%R\t1\t1\t{}\t1\n", 50_000) + "%E\n"
+    crews = "%T\tRSRC\n%F\trsrc_id\trsrc_name\tclndr_id\n" + numbered("%R\t{0}\tr{0}\t2\n", 50_000)
+    yield "needs.xer", XER + PLAIN + OWN + crews + TASKS + TASK.format(1) + NEEDS + numbered("%R\t1\t1\t{}\t1\n", 50_000) + "%E\n"
     days = WEEK.format(filled("(0||0(d|40000)())"))
     yield "days.xer", f"{XER}{CALENDARS}%R\t1\t\t{days}\n{TASKS}{TASK.format(1)}%E\n"
     bases = "".join(f"%R\t{i}\t{i + 1}\t{WEEK.format('')}\n" for i in range(1, 50_000))
@@ -110,6 +111,14 @@ def spreadsheets(book: bytes) -> Texts:
     yield "more.xlsx", with_part(book, "xl/media/image1.png", bytes(2 * UNPACKED))
     entities = ENTITIES.encode() + sheet + cell + b"<t>&a8;</t></is></c></row>" + end
     yield "entities.xlsx", with_part(book, SHEET, entities)
+
+
+def kept(book: bytes) -> Texts:
+    """The file, in which openpyxl would make many cells of little where it is written again."""
+    sheet = zipfile.ZipFile(io.BytesIO(book)).read(SHEET)
+    for name, tag in (("merged", b"<mergeCells><mergeCell ref='A20:XFD1048576'/></mergeCells>"),
+                      ("links", b"<hyperlinks><hyperlink ref='A20:XFD1048576' location='A1'/></hyperlinks>")):
+        yield f"{name}.xlsx", with_part(book, SHEET, sheet.replace(b"</sheetData>", b"</sheetData>" + tag))
 
 
 SPACE, SHEET = b"http://schemas.openxmlformats.org/spreadsheetml/2006/main", "xl/worksheets/sheet1.xml"

@@ -5,19 +5,22 @@ import os
 import resource
 import subprocess
 import sys
+import threading
 import unittest
+from collections.abc import Sequence
+from unittest import mock
 from urllib.parse import urlsplit
 
 from psmax.dates import is_dated
 from psmax.errors import BadInput, Failed
 from psmax.files import without_blank_rows
-from psmax.process_limits import limited
+from psmax.process_limits import keep_limits, limited
 
-from . import hostile_texts
+from . import copied, hostile_texts
 from .browser import DEBIAN
 from .helpers import CALLED, INPUTS, TOP, InFolder, plan
 from .hostile_texts import HEADS, LONG, XER, XML, filled
-from .test_spreadsheets import book, is_here, saved
+from .test_spreadsheets import STARTS, book, is_here, saved
 from .watching import Watching, done
 
 SECONDS, MEGABYTES = 5.0, 200
@@ -41,22 +44,29 @@ for words in map(json.loads, sys.stdin):
 
 
 class Hostile(InFolder):
-    def look(self, texts: hostile_texts.Texts, *before: object) -> None:
-        """Hands each text to `plan check` behind these words, in one process."""
+    looks: subprocess.Popen[str]
+
+    @classmethod
+    def setUpClass(cls) -> None:
         found = [str(TOP / "python"), *(path for path in sys.path if path == DEBIAN)]
         env = {**os.environ, **CALLED, "PYTHONPATH": os.pathsep.join(found)}
-        with subprocess.Popen([sys.executable, "-c", LOOK], text=True, env=env, stdin=subprocess.PIPE,
-                              stdout=subprocess.PIPE) as looks:
-            assert looks.stdin is not None and looks.stdout is not None
-            for name, text in texts:
-                path = self.file(name, text)
-                print(json.dumps(["check", *map(str, before), str(path)]), file=looks.stdin, flush=True)
-                seconds, megabytes, is_clear, *told = looks.stdout.readline().split(" ", 3)
-                path.unlink()
-                with self.subTest(name):
-                    self.assertEqual(is_clear, "True", told)
-                    self.assertLess(float(seconds), SECONDS, told)
-                    self.assertLess(int(megabytes), MEGABYTES, told)
+        cls.looks = subprocess.Popen([sys.executable, "-c", LOOK], text=True, env=env, stdin=subprocess.PIPE,
+                                     stdout=subprocess.PIPE)
+        cls.addClassCleanup(cls.looks.communicate)
+
+    def look(self, texts: hostile_texts.Texts, *before: object, behind: Sequence[object] = ()) -> None:
+        """Hands each text to a command between these words, all in one process. Without words it is `plan check`."""
+        assert self.looks.stdin is not None and self.looks.stdout is not None
+        for name, text in texts:
+            path = self.file(name, text)
+            words = [*(before or ["check"]), path, *behind]
+            print(json.dumps([*map(str, words)]), file=self.looks.stdin, flush=True)
+            seconds, megabytes, is_clear, *told = self.looks.stdout.readline().split(" ", 3)
+            path.unlink()
+            with self.subTest(name):
+                self.assertEqual(is_clear, "True", told)
+                self.assertLess(float(seconds), SECONDS, told)
+                self.assertLess(int(megabytes), MEGABYTES, told)
 
     def test_long(self) -> None:
         self.look(hostile_texts.long())
@@ -73,13 +83,15 @@ class Hostile(InFolder):
         table = self.file("p.csv", f"from,2026-03-02\n{HEADS},crane (1)\na,3,1\n")
         options: list[list[str]] = [[], ["--holidays"], ["--absences"]]
         for option in options:
-            self.look(hostile_texts.lists(), table, *option)
+            self.look(hostile_texts.lists(), "check", table, *option)
         page, starts = self.file("p.md", filled("| a | b |\n")), self.file("starts", "0 0\n1 0\n2 3\n3 7\n")
         self.refused(plan("check", INPUTS / "two-jobs.sch", starts, "--names", page), 2, "p.md: too long")
 
     @unittest.skipUnless(is_here(), "python3-openpyxl isn't here")
     def test_spreadsheets(self) -> None:
         self.look(hostile_texts.spreadsheets(saved(book())))
+        words = self.file("a.csv", STARTS), "--out", self.folder / "out.xlsx"
+        self.look(hostile_texts.kept(saved(book())), "write", behind=words)
 
     def test_watch(self) -> None:
         """A body is refused by its length, before it is read, and the page goes on."""
@@ -133,8 +145,11 @@ class Hostile(InFolder):
         texts: dict[str, tuple[str | bytes, str]] = {
             "a.xml": (f"{XML}<a {'x' * 2_000_000}='1'/></Project>", "a tag of more than 1,048,576 bytes"),
             "b.xml": (f"{XML}{'x' * 1_048_577}</Project>", "a text of more than 1,048,576 signs"),
+            "c.xml": (f"{XML}{'<a>' * 64}{'</a>' * 64}</Project>", "more than 64 levels"),
+            "d.xml": (f"{XML}{'<' * 1_000_000}", "more than 1,000,000 signs <"),
             "a.xer": (f"{XER}%T\tTASK\n%F" + "\ta" * 1_001 + "\n%E\n", "line 6: a table has at most 1,000 columns"),
             "b.xer": (f"{XER}%T\tTASK\n%F\ta\n" + "%R\t1\n" * 500_001 + "%E\n", "at most 500,000 cells"),
+            "c.xer": (XER + "%T\tA\n" * 1_000 + "%E\n", "a file has at most 1,000 tables"),
             "a.mpp": (b"\xd0\xcf\x11\xe0\xa1\xb1\x1a\xe1", "a file of Microsoft Project (.mpp) or of an old Excel (.xls)")}
         for name, (text, told) in texts.items():
             with self.subTest(name):
@@ -156,23 +171,36 @@ class Hostile(InFolder):
 
 class Limited(unittest.TestCase):
     def test_limits(self) -> None:
-        """What is done in a copy of this process ends with its text, its own fault, or that of a limit."""
-        def fail(fault: Exception) -> str:
-            raise fault
-
-        def spin() -> str:
-            while True:
-                pass
-
-        self.assertEqual(limited("x", lambda: "text\n\u00e9"), "text\n\u00e9")
-        for work, kind, told in ((lambda: fail(BadInput("a", "b")), BadInput, "a; b"), (lambda: fail(Failed("c")), Failed, "c"),
-                                 (lambda: fail(KeyError("d")), RuntimeError, "d"),
-                                 (lambda: "x" * LONG * 16, BadInput, "x: it takes more than 128 MB of memory to read"),
-                                 (spin, BadInput, "x: it takes more than 4 seconds to read")):
-            with self.subTest(told), self.assertRaises(kind) as raised:
-                limited("x", work)
-            self.assertEqual(str(raised.exception), told)
+        """What a process with limits does ends with its text, its own fault, or that of a limit."""
+        with mock.patch("psmax.process_limits.begin", copied.begin_answer), mock.patch("psmax.process_limits.SECONDS", 1):
+            self.assertEqual(limited("x", within_limits, "text\n\u00e9"), "text\n\u00e9")
+            for given, kind, told in ((BadInput("a", "b"), BadInput, "a; b"), (Failed("c"), Failed, "c"),
+                                      (KeyError("d"), RuntimeError, "d"),
+                                      (LONG * 16, BadInput, "x: it takes more than 128 MB of memory to read"),
+                                      (None, BadInput, "x: it takes more than 1 seconds to read")):
+                with self.subTest(told), self.assertRaises(kind) as raised:
+                    limited("x", within_limits, given)
+                self.assertEqual(str(raised.exception), told)
         self.assertEqual(resource.getrlimit(resource.RLIMIT_CPU)[0], resource.RLIM_INFINITY)
+
+    def test_a_lock(self) -> None:
+        """What another thread holds meanwhile is not held in that process."""
+        with LOCK:
+            self.assertEqual(limited("x", within_limits, "text"), "text")
+
+
+LOCK = threading.Lock()
+
+
+def within_limits(given: object) -> str:
+    """Gives a text, raises a fault, makes a text of so many signs, or has no end."""
+    keep_limits()
+    with LOCK:
+        if isinstance(given, Exception):
+            raise given
+        while given is None:
+            pass
+        return "x" * given if isinstance(given, int) else f"{given}"
 
 
 def cost(pid: int) -> float:

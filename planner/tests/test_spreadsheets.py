@@ -185,6 +185,20 @@ class Written(InFolder):
         other = self.file("b.xlsx", "a,b\n")
         self.refused(plan("write", self.table, self.answer, "--out", other), 2, "was not written by plan, and would be lost")
 
+    def test_limits(self) -> None:
+        """Of what openpyxl makes of a file to write it again, which is counted before: by hand, 31 cells of the table, two of
+        the other sheet, and two that are merged."""
+        made = book()
+        made.active.merge_cells("A20:B20")
+        table, words = self.file("q.xlsx", saved(made)), (self.answer, "--out", self.out)
+        for name, most, told in (("MOST_KEPT", 100, "unpacked it has more than 100 signs <"),
+                                 ("MOST_MADE", 34, "at most 34 cells in its sheets, with all that are merged or a link, and "
+                                  "this one has 35")):
+            with mock.patch(f"psmax.spreadsheet.{name}", most):
+                self.refused(plan("write", table, *words), 2, told)
+        with mock.patch("psmax.spreadsheet.MOST_MADE", 35):
+            self.assertEqual(plan("write", table, *words).returncode, 0)
+
     def test_of_a_text(self) -> None:
         """A table in CSV, and parts of what may pause: its row has the begin of the first and the end of the last."""
         table = self.file("p.csv", 'from,2026-03-02 06:00\nactivity,hours,"crew (1, days)",may pause\nweld,30,1,yes\n')

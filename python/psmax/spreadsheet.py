@@ -6,6 +6,7 @@ import re
 import zipfile
 from collections.abc import Iterator
 from contextlib import contextmanager
+from functools import partial
 from typing import TYPE_CHECKING, Any, NamedTuple
 
 from .date_style import decimal_sign
@@ -13,7 +14,7 @@ from .errors import BadInput, Failed
 from .extras import extra
 from .files import LARGEST
 from .letters import short
-from .process_limits import limited
+from .process_limits import keep_limits, limited
 
 if TYPE_CHECKING:
     from types import ModuleType
@@ -21,6 +22,11 @@ if TYPE_CHECKING:
 SUFFIX = ".xlsx"
 MOST_UNPACKED = 64 << 20  # bytes of all parts
 MOST_ROWS, MOST_CELLS = 100_000, 100_000  # of a sheet; openpyxl reads so many cells in two seconds
+MOST_SIGNS, MOST_KEPT = 8_000_000, 1_000_000  # < with which tags begin, of a file, and of one that is written again
+MOST_MADE = 100_000  # cells of a file that is written again
+PIECE = 1 << 20  # bytes that are read at once
+SPREAD = {"mergeCell", "hyperlink"}  # what openpyxl makes all cells of a range for
+LAST_ROW, LAST_COLUMN = 1_048_576, 16_384  # of any sheet
 MINUTE = datetime.timedelta(minutes=1)
 DAY_0 = datetime.datetime(1899, 12, 31)
 HOURS = "[h"  # how the format of a length begins, such as [h]:mm
@@ -38,18 +44,62 @@ def openpyxl(called: str) -> "ModuleType":
     return extra("openpyxl", f"{called}: a spreadsheet file", EXTRA)
 
 
-def workbook(data: bytes, called: str, **options: bool) -> Any:
-    """A file that is none, or that has much in little room, is a fault."""
+def workbook(data: bytes, called: str) -> Any:
+    """All of a file, to be written again, where openpyxl makes few cells of it."""
+    shown = reader_of(data, called, MOST_KEPT, read_only=True)
+    with readable(called):
+        count = sum(cells_in(shown.archive, part.target) for _, part in shown.parser.find_sheets())
+    if count > MOST_MADE:
+        raise BadInput(f"{called}: a file into which dates are written has at most {MOST_MADE:,} cells in its sheets, with "
+                       f"all that are merged or a link, and this one has {count:,}")
+    return reader_of(data, called, MOST_KEPT).wb
+
+
+def reader_of(data: bytes, called: str, most: int = MOST_SIGNS, **options: bool) -> Any:
+    """What has read a file. One that is none, or that has much in little room, is a fault."""
     if len(data) > LARGEST:
         raise BadInput(f"{called}: too long: it has more than {LARGEST:,} bytes")
+    openpyxl(called)
+    from openpyxl.reader.excel import ExcelReader
     with readable(called):
         with zipfile.ZipFile(io.BytesIO(data)) as parts:
-            size = sum(part.file_size for part in parts.infolist())
-            if "mimetype" in parts.namelist():
-                raise BadInput(f"{called}: a file of OpenDocument; save it as {SUFFIX} or as CSV")
-        if size > MOST_UNPACKED:
-            raise BadInput(f"{called}: too long: unpacked it has more than {MOST_UNPACKED:,} bytes")
-        return openpyxl(called).load_workbook(io.BytesIO(data), **options)
+            must_be_plain(parts, called, most)
+        reader = ExcelReader(io.BytesIO(data), **options)
+        reader.read()
+        return reader
+
+
+def must_be_plain(parts: zipfile.ZipFile, called: str, most: int) -> None:
+    """Counted before anything is made of it, since tags take a hundred times the room of a text."""
+    if "mimetype" in parts.namelist():
+        raise BadInput(f"{called}: a file of OpenDocument; save it as {SUFFIX} or as CSV")
+    if sum(part.file_size for part in parts.infolist()) > MOST_UNPACKED:
+        raise BadInput(f"{called}: too long: unpacked it has more than {MOST_UNPACKED:,} bytes")
+    if sum(signs_in(parts, name) for name in parts.namelist()) > most:
+        raise BadInput(f"{called}: too long: unpacked it has more than {most:,} signs <")
+
+
+def signs_in(parts: zipfile.ZipFile, name: str) -> int:
+    """With which tags begin."""
+    with parts.open(name) as file:
+        return sum(piece.count(b"<") for piece in iter(partial(file.read, PIECE), b""))
+
+
+def cells_in(parts: zipfile.ZipFile, name: str) -> int:
+    """How many cells openpyxl makes of a sheet, to write it again."""
+    from xml.etree.ElementTree import iterparse
+
+    from openpyxl.utils.cell import range_boundaries
+    count = 0
+    with parts.open(name) as file:
+        for _, one in iterparse(file):
+            kind = one.tag.rpartition("}")[2]
+            count += kind == "c"
+            if kind in SPREAD:
+                left, top, right, bottom = range_boundaries(one.get("ref", ""))
+                count += (1 + (right or LAST_COLUMN) - (left or 1)) * (1 + (bottom or LAST_ROW) - (top or 1))
+            one.clear()
+    return count
 
 
 @contextmanager
@@ -77,8 +127,13 @@ def sheet_of(book: Any, name: str | None, called: str) -> Any:
 def as_csv(data: bytes, called: str, name: str | None = None) -> str:
     """The rows stand where they stand in the sheet. No limit on the bytes says how long openpyxl takes, so it has limits of its
     own."""
+    return limited(called, read_csv, data, called, name)
+
+
+def read_csv(data: bytes, called: str, name: str | None) -> str:
     openpyxl(called)
-    return limited(called, lambda: csv_of(data, called, name))
+    keep_limits()
+    return csv_of(data, called, name)
 
 
 def csv_of(data: bytes, called: str, name: str | None) -> str:
@@ -99,7 +154,9 @@ def without_blank(rows: list[list[object]]) -> list[list[object]]:
 
 def cells_of(data: bytes, called: str, name: str | None) -> Iterator[list[object]]:
     """The text of each cell, or its number. A formula is its value, which the spreadsheet has left in the file."""
-    sheet = sheet_of(workbook(data, called, read_only=True, data_only=True), name, called)
+    reader = reader_of(data, called, read_only=True, data_only=True)
+    sheet = sheet_of(reader.wb, name, called)
+    path = next(part.target for one, part in reader.parser.find_sheets() if one.name == sheet.title)
     sheet.reset_dimensions()
     count, faults = 0, list[str]()
     for number, row in enumerate(sheet.iter_rows(), 1):
@@ -109,15 +166,15 @@ def cells_of(data: bytes, called: str, name: str | None) -> Iterator[list[object
         faults += [f"{called}: cell {one.coordinate}: {short(str(one.value))}" for one in row if one.data_type == "e"]
         yield [shown(one) for one in row]
     faults += [f"{called}: cell {one}: a formula without its value; open and save the file in a spreadsheet"
-               for one in unvalued(data, sheet._worksheet_path)]
+               for one in unvalued(reader.archive, path)]
     if faults:
         raise BadInput(*faults)
 
 
-def unvalued(data: bytes, path: str) -> Iterator[str]:
+def unvalued(parts: zipfile.ZipFile, name: str) -> Iterator[str]:
     """The cells of a sheet whose formulas have no value. Only the file says so: openpyxl shows the one or the other."""
     from xml.etree.ElementTree import iterparse
-    with zipfile.ZipFile(io.BytesIO(data)) as parts, parts.open(path) as file:
+    with parts.open(name) as file:
         for _, one in iterparse(file):
             kind = one.tag.rpartition("}")[2]
             if kind == "c" and one.find("{*}f") is not None and one.get("t", "n") == "n" and not one.findtext("{*}v"):

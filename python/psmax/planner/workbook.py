@@ -9,7 +9,7 @@ from typing import Any
 
 from ..errors import BadInput
 from ..files import SPREADSHEET, read_bytes, read_text, write_whole
-from ..spreadsheet import openpyxl, sheet_of, workbook
+from ..spreadsheet import openpyxl, reader_of, sheet_of, workbook
 from ..total import TotalFloat
 from . import workbook_chart
 from .columns import is_head
@@ -180,7 +180,7 @@ def must_be_ours(out: str) -> None:
     """A file that is there is one that was written so."""
     there = read_bytes(out) if os.path.isfile(out) else b""
     if there.strip():
-        book = workbook(there, out, read_only=True) if there.startswith(SPREADSHEET) else None
+        book = reader_of(there, out, read_only=True).wb if there.startswith(SPREADSHEET) else None
         if book is None or not workbook_chart.is_ours(book):
             raise BadInput(f"{out} is there, and was not written by plan, and would be lost; name another file with "
                            "--out")
