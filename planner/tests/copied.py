@@ -59,8 +59,9 @@ def run(words: Sequence[str], env: Mapping[str, str]) -> NoReturn:
 
 
 def part() -> None:
-    """Makes the child a process of its own. Closing what else is open tells the parent that it runs; from then on it may be
-    sent a signal, which must not be for the handlers of the parent. What the tests have put off until their end is theirs."""
+    """Makes the child a process of its own. Closing what else is open tells the parent that it runs; from then on it
+    may be sent a signal, which must not be for the handlers of the parent. What the tests have put off until their end
+    is theirs."""
     end_at_once()
     os.closerange(3, os.sysconf("SC_OPEN_MAX"))
     atexit._clear()

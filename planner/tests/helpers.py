@@ -1,7 +1,8 @@
-"""What the tests share. They call the built programs, and take their expected values from the format's description, from
-calculation by hand, or from a proof of psmax."""
+"""What the tests share. They call the built programs, and take their expected values from the format's description,
+from calculation by hand, or from a proof of psmax."""
 import functools
 import io
+import marshal
 import os
 import pathlib
 import py_compile
@@ -41,8 +42,8 @@ CALLED = {"PSMAX": PSMAX, "PSPROVE": PSPROVE, "PYTHONPYCACHEPREFIX": COMPILED.na
 # Two jobs of 3 and 4 on one machine: the README's first project without its lag. Every schedule takes 7 at least.
 TWO_JOBS = "2 1 0 0\n0 1 0\n1 1 0\n2 1 0\n3 1 0\n0 1 0 0\n1 1 3 1\n2 1 4 1\n3 1 0 0\n1\n"
 
-# By hand: two jobs of 3 and 4 on one machine, with time between them, so that they take 12 and then 9; they could take 7. What
-# a search may tell of them is true.
+# By hand: two jobs of 3 and 4 on one machine, with time between them, so that they take 12 and then 9; they could take
+# 7. What a search may tell of them is true.
 TWO = INPUTS / "two-jobs.sch"
 LONG, SHORT = [0, 0, 8, 12], [0, 0, 5, 9]
 TELLS = [{"bound": 4}, {"bound": 4, "starts": LONG}, {"bound": 4, "starts": SHORT}, {"bound": 6, "starts": SHORT}]
@@ -73,8 +74,8 @@ def plan(*words: object, given: bytes = b"", psmax: str = PSMAX, psprove: str = 
 
 def started(*words: object, out: int | IO[bytes] = subprocess.PIPE, psprove: str = PSPROVE,
             psmax: str = PSMAX) -> subprocess.Popen[str]:
-    """The command as a process of its own, which every signal ends, however the tests were started: a copy of this process,
-    which spares the start of Python. `begun` is the file that users start."""
+    """The command as a process of its own, which every signal ends, however the tests were started: a copy of this
+    process, which spares the start of Python. `begun` is the file that users start."""
     return subprocess.Popen([PLAN], text=True, stdout=out, stderr=subprocess.PIPE,
                             preexec_fn=partial(copied.run, [*map(str, words)], {"PSMAX": psmax, "PSPROVE": psprove}))
 
@@ -137,7 +138,7 @@ class InFolder(unittest.TestCase):
 
     def stand_in(self, **story: object) -> str:
         """A program that stands in for psprove: stand_in.py says what it does."""
-        path = self.file("story", repr(story))
+        path = self.file("story", marshal.dumps(story))
         return self.program("stand-in", f'exec {sys.executable} -ES {compiled(STAND_IN)} {path} "$@"')
 
     def hard(self) -> pathlib.Path:

@@ -44,7 +44,8 @@ def long() -> Texts:
 
 
 def tables() -> Texts:
-    """As long as a table may be, with many cells, columns, rows, names that are like others, and groups one in another."""
+    """As long as a table may be, with many cells, columns, rows, names that are like others, and groups one in
+    another."""
     for name in ("commas", "braces", "quotes", "titles", "line"):
         yield f"short-{name}.csv", filled(PIECES[name], SHORT)
     yield "names.csv", f"{HEADS}\n" + f"{'a' * 32_000},1\n" * 130
@@ -88,7 +89,8 @@ def exports() -> Texts:
     yield "rows.xer", XER + TASKS + numbered(TASK, 30_000) * 10 + "%E\n"
     yield "other.xer", f"{XER}%T\tOTHER\n" + filled("%R\t\n") + "%E\n"
     crews = "%T\tRSRC\n%F\trsrc_id\trsrc_name\tclndr_id\n" + numbered("%R\t{0}\tr{0}\t2\n", 50_000)
-    yield "needs.xer", XER + PLAIN + OWN + crews + TASKS + TASK.format(1) + NEEDS + numbered("%R\t1\t1\t{}\t1\n", 50_000) + "%E\n"
+    needs = NEEDS + numbered("%R\t1\t1\t{}\t1\n", 50_000)
+    yield "needs.xer", XER + PLAIN + OWN + crews + TASKS + TASK.format(1) + needs + "%E\n"
     days = WEEK.format(filled("(0||0(d|40000)())"))
     yield "days.xer", f"{XER}{CALENDARS}%R\t1\t\t{days}\n{TASKS}{TASK.format(1)}%E\n"
     bases = "".join(f"%R\t{i}\t{i + 1}\t{WEEK.format('')}\n" for i in range(1, 50_000))

@@ -1,14 +1,15 @@
 """planner/tests/stand_in.py STORY solve WORD..
 
-Stands in for psprove. STORY is a file with a dictionary of Python, which says what it does:
+Stands in for psprove. STORY is a file with a dictionary, as `marshal` writes it, which says what it does:
 
 tells   the reports of its book, one after another, each with the bound, and perhaps with starts
-then    "answers" at once; "pairs", with two jobs at a time, whatever the project is; "waits" for its limits, and answers;
-        "sticks", and has to be killed; or "dies"
+then    "answers" at once; "pairs", with two jobs at a time, whatever the project is; "waits" for its limits, and
+        answers; "sticks", and has to be killed; or "dies"
 answer  the starts and the bound of its answer, which is otherwise that of its last report
 record  the seconds that its record takes after the answer"""
 from __future__ import annotations
 
+import marshal
 import os
 import sys
 import time
@@ -62,8 +63,8 @@ def wait(options: dict[str, str]) -> None:
 
 
 def main(path: str, *words: str) -> None:
-    with open(path) as file:
-        story: Row = eval(file.read())
+    with open(path, "rb") as file:
+        story: Row = marshal.load(file)
     for told in story["tells"]:
         print(to_json(report(told)), file=sys.stderr, flush=True)
     if story["then"] == "dies":

@@ -25,8 +25,8 @@ from .watching import Watching, done
 
 SECONDS, MEGABYTES = 5.0, 200
 
-# Looks at all texts in turn, and tells the seconds of a processor that each took, with those of what it called, the most memory
-# of all, and faults that say nothing.
+# Looks at all texts in turn, and tells the seconds of a processor that each took, with those of what it called, the
+# most memory of all, and faults that say nothing.
 LOOK = """
 import contextlib, io, json, os, re, resource, sys
 from psmax.planner.main import main
@@ -172,7 +172,8 @@ class Hostile(InFolder):
 class Limited(unittest.TestCase):
     def test_limits(self) -> None:
         """What a process with limits does ends with its text, its own fault, or that of a limit."""
-        with mock.patch("psmax.process_limits.begin", copied.begin_answer), mock.patch("psmax.process_limits.SECONDS", 1):
+        with (mock.patch("psmax.process_limits.begin", copied.begin_answer),
+              mock.patch("psmax.process_limits.SECONDS", 1)):
             self.assertEqual(limited("x", within_limits, "text\n\u00e9"), "text\n\u00e9")
             for given, kind, told in ((BadInput("a", "b"), BadInput, "a; b"), (Failed("c"), Failed, "c"),
                                       (KeyError("d"), RuntimeError, "d"),

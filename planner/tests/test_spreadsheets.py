@@ -15,8 +15,8 @@ from psmax.spreadsheet import as_csv
 from .browser import DEBIAN
 from .helpers import InFolder, plan
 
-# By hand, eight hours a day from Monday 2 March 2026 on: a day and a half, two days and a half, a day between, and four hours
-# end on Monday 9 March at 12:00.
+# By hand, eight hours a day from Monday 2 March 2026 on: a day and a half, two days and a half, a day between, and four
+# hours end on Monday 9 March at 12:00.
 ROWS = [["title", "Kessel"], ["from", datetime.datetime(2026, 3, 2)], ["Arbeitstage", "Mo-Fr"], [],
         ["Nr", "Vorgang", "Dauer", "Vorgänger", "Kran (1)", "Gewerk", "fällig", "erledigt"],
         [1, "Ausbau", "1,5 d", None, 1, "Rohr", datetime.datetime(2026, 3, 2), 0.0],
@@ -186,14 +186,14 @@ class Written(InFolder):
         self.refused(plan("write", self.table, self.answer, "--out", other), 2, "was not written by plan, and would be lost")
 
     def test_limits(self) -> None:
-        """Of what openpyxl makes of a file to write it again, which is counted before: by hand, 31 cells of the table, two of
-        the other sheet, and two that are merged."""
+        """Of what openpyxl makes of a file to write it again, which is counted before: by hand, 31 cells of the table,
+        two of the other sheet, and two that are merged."""
         made = book()
         made.active.merge_cells("A20:B20")
         table, words = self.file("q.xlsx", saved(made)), (self.answer, "--out", self.out)
         for name, most, told in (("MOST_KEPT", 100, "unpacked it has more than 100 signs <"),
-                                 ("MOST_MADE", 34, "at most 34 cells in its sheets, with all that are merged or a link, and "
-                                  "this one has 35")):
+                                 ("MOST_MADE", 34, "at most 34 cells in its sheets, with all that are merged or a "
+                                  "link, and this one has 35")):
             with mock.patch(f"psmax.spreadsheet.{name}", most):
                 self.refused(plan("write", table, *words), 2, told)
         with mock.patch("psmax.spreadsheet.MOST_MADE", 35):

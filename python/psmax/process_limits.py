@@ -17,8 +17,8 @@ START = "import sys; sys.path[:] = sys.argv[1:]; from psmax.process_limits impor
 
 
 def limited(called: str, work: Callable[..., str], *given: object) -> str:
-    """The text that a function of a module gives, or its fault. It calls `keep_limits` once it has all that it needs but the
-    text, and it is a fault of its own that these don't suffice."""
+    """The text that a function of a module gives, or its fault. It calls `keep_limits` once it has all that it needs
+    but the text, and it is a fault of its own that these don't suffice."""
     with begin() as child:
         try:
             told, _ = child.communicate(pickle.dumps((work, given)))
@@ -36,8 +36,8 @@ def limited(called: str, work: Callable[..., str], *given: object) -> str:
 
 def begin() -> subprocess.Popen[bytes]:
     """A Python that answers. It is no copy of this process, in which another thread may hold a lock."""
-    return subprocess.Popen([sys.executable, "-S", "-c", START, *sys.path], stdin=subprocess.PIPE, stdout=subprocess.PIPE,
-                            stderr=subprocess.DEVNULL, start_new_session=True)
+    return subprocess.Popen([sys.executable, "-S", "-c", START, *sys.path], stdin=subprocess.PIPE,
+                            stdout=subprocess.PIPE, stderr=subprocess.DEVNULL, start_new_session=True)
 
 
 def answer() -> None:

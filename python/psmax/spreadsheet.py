@@ -50,8 +50,8 @@ def workbook(data: bytes, called: str) -> Any:
     with readable(called):
         count = sum(cells_in(shown.archive, part.target) for _, part in shown.parser.find_sheets())
     if count > MOST_MADE:
-        raise BadInput(f"{called}: a file into which dates are written has at most {MOST_MADE:,} cells in its sheets, with "
-                       f"all that are merged or a link, and this one has {count:,}")
+        raise BadInput(f"{called}: a file into which dates are written has at most {MOST_MADE:,} cells in its sheets, "
+                       f"with all that are merged or a link, and this one has {count:,}")
     return reader_of(data, called, MOST_KEPT).wb
 
 
@@ -125,8 +125,8 @@ def sheet_of(book: Any, name: str | None, called: str) -> Any:
 
 
 def as_csv(data: bytes, called: str, name: str | None = None) -> str:
-    """The rows stand where they stand in the sheet. No limit on the bytes says how long openpyxl takes, so it has limits of its
-    own."""
+    """The rows stand where they stand in the sheet. No limit on the bytes says how long openpyxl takes, so it has
+    limits of its own."""
     return limited(called, read_csv, data, called, name)
 
 

@@ -35,8 +35,8 @@ def read_tables(text: str) -> dict[str, list[Row]]:
 
 
 def tables_of(text: str) -> Iterator[tuple[int, str, str]]:
-    """Each table that is read: the number of the line with its name, the name, and what stands below. Others are passed over,
-    whatever their texts are."""
+    """Each table that is read: the number of the line with its name, the name, and what stands below. Others are passed
+    over, whatever their texts are."""
     if not text.startswith(HEAD):
         raise BadInput(f"the file does not begin with {HEAD}")
     end = END.search(text)
