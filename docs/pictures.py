@@ -1,11 +1,14 @@
 #!/usr/bin/env python3
 """docs/pictures.py
 
-Makes the pictures of docs/PLANNER.md in Chromium: the report and the daily list of the turnaround on Friday, and `plan
-watch`, while the hall's table is edited. Needs Debian's chromium, chromium-driver and python3-selenium."""
+Makes the pictures of docs/PLANNER.md: the spreadsheet files of the turnaround in LibreOffice; in Chromium its report,
+its daily list on paper, and `plan watch`, while the hall's table is edited. Needs Debian's chromium, chromium-driver,
+python3-selenium, python3-openpyxl, python3-pil, libreoffice-calc and poppler-utils."""
+import base64
 import os
 import pathlib
 import shutil
+import subprocess
 import sys
 import tempfile
 import time
@@ -15,15 +18,19 @@ TOP = pathlib.Path(__file__).resolve().parent.parent
 sys.path[1:1] = [str(TOP), str(TOP / "python")]
 
 from planner.tests import browser  # noqa: E402
-from planner.tests.helpers import PROJECTS, plan  # noqa: E402
+from planner.tests.helpers import plan  # noqa: E402
 from planner.tests.watching import Watching, done  # noqa: E402
 
 EXAMPLES, DOCS = TOP / "examples", TOP / "docs"
 CHANGED = (EXAMPLES / "hall-changed.csv").read_text()
 WRONG = CHANGED.replace("fix gutters,2", "fix gutters,two")
 SHORT = CHANGED.replace("14,hired for 15 days", "6,hired for 7 days")
-SIZE, REPORT, DAILY = (1200, 1073), (1400, 913), (900, 553)
-FRIDAY = "turnaround-friday.csv"
+SIZE, REPORT = (1200, 1073), (1400, 900)
+TABLE, WEDNESDAY = "reformer.xlsx", "reformer-wednesday.xlsx"
+# Of each picture of a page of paper its resolution, its place on the page, its width and its height, in dots.
+PAPERS = {"sheet": (150, (96, 140, 1180, 470)), "plan-sheet": (110, (76, 106, 1020, 480)),
+          "daily": (100, (30, 40, 770, 540))}
+COLOURS = 256  # of a picture
 REST = 1.0  # seconds in which the page draws
 
 
@@ -37,29 +44,70 @@ def shot(driver: Any, watch: Watching, name: str, script: str = "") -> None:
     driver.execute_script(script)
     time.sleep(REST)
     driver.save_screenshot(str(DOCS / name))
+    make_small(name)
 
 
 def turnaround(driver: Any) -> None:
-    """The chart of the report, with an activity chosen, and the first day of the list."""
-    for path in PROJECTS.glob("turnaround*"):
-        shutil.copy(path, ".")
-    for words in (["solve", "turnaround.csv", "--out", "shut.csv", "--jobs", "1"],
-                  ["solve", FRIDAY, "--start", "shut.csv", "--out", "friday.csv", "--jobs", "1"],
-                  ["report", FRIDAY, "friday.csv", "--baseline", "shut.csv", "--out", "friday.html", "--seconds", "200"],
-                  ["write", FRIDAY, "friday.csv", "--daily", "--out", "daily.html"]):
+    """The planner's sheet, the chart in it, the report with an activity chosen, and the first day of the list."""
+    for name in (TABLE, WEDNESDAY):
+        shutil.copy(EXAMPLES / name, ".")
+    for words in (["solve", TABLE, "--out", "plan.csv", "--record", "plan.rec", "--jobs", "1"],
+                  ["report", TABLE, "plan.csv", "--record", "plan.rec", "--out", "plan.html"],
+                  ["write", TABLE, "plan.csv", "--total", "--out", "plan.xlsx"],
+                  ["solve", WEDNESDAY, "--start", "plan.csv", "--out", "wednesday.csv", "--jobs", "1"],
+                  ["write", WEDNESDAY, "wednesday.csv", "--daily", "--out", "daily.html"]):
         assert plan(*words).returncode in (0, 3), words
-    for page, name, size, script in (
-            ("friday.html", "report.png", REPORT, """const lines = [...document.querySelectorAll("#lines .line")];
-                const line = lines.find((one) => one.textContent.startsWith("56 "));
-                line.click();
-                document.querySelector(".keys").scrollIntoView();
-                byId("chart").scrollTop = line.offsetTop - 400;"""),
-            ("daily.html", "daily.png", DAILY, "scrollTo(0, 24)")):
-        driver.set_window_size(*size)
-        driver.get(pathlib.Path(page).resolve().as_uri())
-        driver.execute_script(script)
-        time.sleep(REST)
-        driver.save_screenshot(str(DOCS / name))
+    driver.set_window_size(*REPORT)
+    driver.get(pathlib.Path("plan.html").resolve().as_uri())
+    driver.execute_script("""const lines = [...document.querySelectorAll("#lines .line")];
+        lines.find((one) => one.textContent.startsWith("15 ")).click();
+        document.querySelector(".keys").scrollIntoView();
+        scrollBy(0, -44);""")
+    time.sleep(REST)
+    driver.save_screenshot(str(DOCS / "report.png"))
+    make_small("report.png")
+    driver.get(pathlib.Path("daily.html").resolve().as_uri())
+    printed = driver.execute_cdp_cmd("Page.printToPDF", {"preferCSSPageSize": True, "printBackground": True})
+    pathlib.Path("daily.pdf").write_bytes(base64.b64decode(printed["data"]))
+    to_paper(TABLE, "sheet")
+    of_chart("plan.xlsx", "plan-sheet.xlsx")
+    to_paper("plan-sheet.xlsx", "plan-sheet")
+    for name in PAPERS:
+        to_picture(name)
+        make_small(f"{name}.png")
+
+
+def of_chart(book: str, out: str) -> None:
+    """The sheet of the chart alone."""
+    import openpyxl
+    made = openpyxl.load_workbook(book)
+    del made[made.sheetnames[0]]
+    made.save(out)
+
+
+def to_paper(book: str, name: str) -> None:
+    """A spreadsheet file as LibreOffice prints it."""
+    shutil.copy(book, f"{name}-paper.xlsx")
+    subprocess.run(["soffice", "--headless", "--convert-to", "pdf", f"{name}-paper.xlsx"], check=True,
+                   capture_output=True)
+    os.rename(f"{name}-paper.pdf", f"{name}.pdf")
+
+
+def to_picture(name: str) -> None:
+    """A part of the first page."""
+    dots, (left, top, width, height) = PAPERS[name]
+    place = ["-x", left, "-y", top, "-W", width, "-H", height]
+    subprocess.run(["pdftoppm", "-r", f"{dots}", "-l", "1", "-png", "-singlefile", *map(str, place), f"{name}.pdf",
+                    str(DOCS / name)], check=True)
+
+
+def make_small(name: str) -> None:
+    """In few colours."""
+    from PIL import Image
+    path = DOCS / name
+    with Image.open(path) as picture:
+        found = picture.convert("RGB").quantize(COLOURS, Image.Quantize.MAXCOVERAGE, dither=Image.Dither.NONE)
+    found.save(path, optimize=True)
 
 
 def main() -> None:

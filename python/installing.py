@@ -22,7 +22,8 @@ OWN = pathlib.PurePath("share/psmax"), pathlib.PurePath("share/doc/psmax")  # fo
 MADE = OWN[0] / "installed"  # what was made, from the root on
 PROGRAM, FILE = 0o755, 0o644
 DOCUMENTS = ("README.md", "CHANGELOG.md", "SECURITY.md", "docs/*.md", "docs/*.svg", "docs/*.png", "examples/*.md",
-             "examples/*.sch", "examples/*.starts", "examples/hall*", "examples/formats/*", "planner/projects/*")
+             "examples/*.sch", "examples/*.starts", "examples/hall*", "examples/*.xlsx", "examples/formats/*",
+             "planner/projects/*")
 LINK = re.compile(r"\[((?:[^\[\]]|\[[^\]]*\])*)\]\(([^)\s]+)\)")
 Installed = tuple[pathlib.PurePath, bytes, int]  # a name below the prefix, what the file holds, and its mode
 

@@ -13,7 +13,8 @@ that `./psmax` and `./psprove` start.
   the crates is the package's.
 - Help of psmax and of psprove has no name of a type.
 - The picture of docs/ARCHITECTURE.md has each crate of crates.txt, and so has its table.
-- Each command of a document of SHOWN is run as a user runs it, and prints what stands below it.
+- Each command of a document of SHOWN is run as a user runs it, and prints what stands below it. Without openpyxl those
+  with spreadsheet files, and with what is made of them, are left out.
 
 A command to run stands after `$ ` in a ```console block, in a manual page between .EX and .EE; further lines of it
 stand after `> `. All blocks of a document run in turn in one folder, which has what a clone has. Two kinds of blocks
@@ -22,6 +23,7 @@ blocks are only read. Lines of progress, which begin with seconds, are not compa
 
 Prints each failure, and last 'N passed, M failed'."""
 import functools
+import importlib.machinery
 import os
 import pathlib
 import re
@@ -43,6 +45,8 @@ SHOWN = {"README.md", "docs/FORMAT.md", "docs/RECORD.md", "docs/WORKERS.md", "do
 PARTS = ("examples", "planner", "python", "tests")  # what a command may read, besides the programs
 SKIPPED = {".git", "out", "build", "__pycache__"}
 SECONDS = 60
+DEBIAN = "/usr/lib/python3/dist-packages"  # which another Python than Debian's doesn't search
+SPREADSHEET = ".xlsx"
 
 LINK = re.compile(r"\[((?:[^\[\]]|\[[^\]]*\])*)\]\(([^)\s]+)\)")
 SPAN = re.compile(r"`([^`\n]+)`")
@@ -54,6 +58,7 @@ NO_TYPES = {"MiB"}
 EXAMPLE = re.compile(r"^\.EX\n(.*?)^\.EE$", re.M | re.S)
 COMMAND = re.compile(r"^\$ (.*\n(?:> .*\n)*)", re.M)
 PROGRESS = re.compile(r"^ *\d+\.\d\d s  .*\n", re.M)
+NAMED = re.compile(r"[\w-]+\.[a-z]+")  # a file in a command
 OPTION = re.compile(r"(?<![\w-])--[a-z][a-z-]*")
 SOURCE = re.compile(r"[\w-]+\.(?:py|c|jsonl|antt|rt|toml)")
 
@@ -220,6 +225,12 @@ def of_commands(document: pathlib.Path, prose: str, blocks: Blocks, programs: Pr
             yield verdict(document, not fault, f"{line}: {fault}")
 
 
+def home_of(package: str) -> str | None:
+    """The folder from which a package is imported, where it is here."""
+    found = importlib.machinery.PathFinder.find_spec(package, [*sys.path, DEBIAN])
+    return str(pathlib.Path(found.origin).parents[1]) if found is not None and found.origin is not None else None
+
+
 class Clone:
     """A folder with what a clone has, and the installed programs on the PATH."""
 
@@ -235,6 +246,8 @@ class Clone:
             (bin_folder / name).symlink_to(programs.paths[name])
         self.environment = {name: value for name, value in os.environ.items() if name not in ("PSMAX", "PSPROVE")}
         self.environment["PATH"] = f"{bin_folder}:{pathlib.Path(sys.executable).parent}:/usr/bin:/bin"
+        if (home := home_of("openpyxl")) is not None:
+            self.environment["PYTHONPATH"] = home
 
     def save(self, command: str, text: str) -> None:
         """Saves a file that the document shows, and that is not there yet."""
@@ -260,8 +273,13 @@ def shown_in(blocks: Blocks) -> Iterator[tuple[str, str]]:
 
 def of_shown(document: pathlib.Path, blocks: Blocks, programs: Programs) -> Verdicts:
     with harness.new_folder() as folder:
-        clone = Clone(folder, programs)
+        clone, left_out = Clone(folder, programs), set[str]()
         for command, wanted in shown_in(blocks):
+            named = set(NAMED.findall(command))
+            if home_of("openpyxl") is None and (SPREADSHEET in command or named & left_out):
+                left_out |= named
+                print(f"left out, since openpyxl isn't here: $ {command}", end="")
+                continue
             clone.save(command, wanted)
             printed = clone.run(command.replace("\n> ", "\n"))
             is_right = PROGRESS.sub("", printed) == PROGRESS.sub("", wanted)

@@ -100,7 +100,7 @@ def moved(was: ProjectFile, before: Sequence[int] | None, file: ProjectFile, aft
     if first is None or last is None:
         return ""
     days = (first - last) / DAY
-    many = f"{abs(days):g} days" if days == int(days) else f"{abs(24 * days):g} h"
+    many = f"{abs(days):g} day{'s' * (abs(days) != 1)}" if days == int(days) else f"{abs(24 * days):g} h"
     return f", {many} {'sooner' if days > 0 else 'later'}" if days else ", the same"
 
 
