@@ -5,7 +5,8 @@ Measures the search book with book_events, and prints a table: how many bytes an
 alive, which is the peak memory with a million open nodes less that with a thousand, over their difference; and how long
 a take and a check-in take with so many nodes open, with how many nodes were opened by a check-in. Each project has 30
 equal activities. All children of a node share its list of pairs, so a node takes less where there are many: where seven
-activities fit at once, sets of eight are split, which gives 56 children; where four do, sets of five, which gives 20."""
+activities fit at once, sets of eight are split, which gives 56 children; where four do, sets of five, which gives
+20."""
 import sys
 
 import measuring

@@ -1,9 +1,9 @@
 #!/usr/bin/env python3
 """bench/counts.py PROGRAM [OTHER]
 
-Prints how many instructions and allocations a search makes a take, in one thread, on projects of bench/projects.py and on
-the first job shop of Fisher and Thompson: those of all its takes less those of one take, over the takes between. They are
-counted by valgrind, and are the same in each run, whatever else the machine does."""
+Prints how many instructions and allocations a search makes a take, in one thread, on projects of bench/projects.py and
+on the first job shop of Fisher and Thompson: those of all its takes less those of one take, over the takes between.
+They are counted by valgrind, and are the same in each run, whatever else the machine does."""
 import re
 import subprocess
 import sys

@@ -5,13 +5,13 @@ Prints a table of what projects cost in cubes, beside one undivided search with 
 seconds (600 by default).
 
 Machines are simulated: searches run one after another, each when the driver gives it out, with the lemmas of those that
-have ended by then. A search ends when its processor seconds are over. Each number of machines (4, 16, 64 and 256 by default)
-is a run of its own. Where PROJECT is a folder that `plan solve --out` left, nothing is searched again: the searches that it
-has are replayed on each number of machines, and its record is made anew, once.
+have ended by then. A search ends when its processor seconds are over. Each number of machines (4, 16, 64 and 256 by
+default) is a run of its own. Where PROJECT is a folder that `plan solve --out` left, nothing is searched again: the
+searches that it has are replayed on each number of machines, and its record is made anew, once.
 
-Seconds are of a processor, as the system counts them of children. In brackets stands what all cubes take
-to what the undivided search does. `takes` is the simulated time of all searches, without the join, and `speed-up` the seconds
-of the undivided search to it."""
+Seconds are of a processor, as the system counts them of children. In brackets stands what all cubes take to what the
+undivided search does. `takes` is the simulated time of all searches, without the join, and `speed-up` the seconds of
+the undivided search to it."""
 import argparse
 import heapq
 import json
@@ -143,8 +143,8 @@ def of_folder(folder: pathlib.Path, counts: Sequence[int]) -> Iterator[tuple[int
 
 
 def replayed(rows: Sequence[cube.Row], machines: int) -> float:
-    """When the searches of these rows end on so many machines. Each takes as long there, and begins as a driver would give
-    it out."""
+    """When the searches of these rows end on so many machines. Each takes as long there, and begins as a driver would
+    give it out."""
     names = {row["number"]: row["cube"] for row in rows if row["step"] == "given"}
     ended: defaultdict[str, deque[cube.Row]] = defaultdict(deque)
     for row in rows:

@@ -1,10 +1,10 @@
 #!/usr/bin/env python3
 """bench/jobs.py PSPROVE [--jobs J] [--seeds S] [--seconds T]
 
-How many times sooner J jobs (4 by default) prove a project than one does, by the clock, as a Markdown table: job shops of
-Taillard (1993), and projects of bench/progen.py and bench/projects.py that one job proves in some seconds. Each is solved
-with S seeds (2 by default), one job and J in turns, each run in T seconds at most (120 by default). The last line has the
-geometric mean. J jobs need J free processors."""
+How many times sooner J jobs (4 by default) prove a project than one does, by the clock, as a Markdown table: job shops
+of Taillard (1993), and projects of bench/progen.py and bench/projects.py that one job proves in some seconds. Each is
+solved with S seeds (2 by default), one job and J in turns, each run in T seconds at most (120 by default). The last
+line has the geometric mean. J jobs need J free processors."""
 import argparse
 import json
 import statistics
@@ -32,7 +32,8 @@ def texts() -> dict[str, bytes]:
 
 
 def seconds(words: list[str], text: bytes) -> tuple[float, int] | None:
-    """The seconds by the clock of a search that proves its answer, and the conflicts of all jobs; None of one that doesn't."""
+    """The seconds by the clock of a search that proves its answer, and the conflicts of all jobs; None of one that
+    doesn't."""
     ran = measuring.run(words, text)
     return (ran.clock, json.loads(ran.out)["conflicts"]) if ran.status == 0 else None
 

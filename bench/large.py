@@ -5,9 +5,10 @@ Prints a table of what programs find for generated projects of 100 to 1,000 acti
 and two of bench/shutdown.py. `--only` takes those alone whose name has the word.
 
 A program is the one that is named, else that of the PATH; it is left out where there is none: `psprove solve`, `psmax
-solve`, `plan solve`, Gecode's `fzn-gecode` and `z3`. Each gets S seconds of processor time a project, 60 if not said, one
-project after the other. A cell says the makespan of the best schedule, the bound if the program tells one, the seconds of
-processor time up to the first schedule, in hundredths, and the peak memory in MiB. Each best schedule is checked here.
+solve`, `plan solve`, Gecode's `fzn-gecode` and `z3`. Each gets S seconds of processor time a project, 60 if not said,
+one project after the other. A cell says the makespan of the best schedule, the bound if the program tells one, the
+seconds of processor time up to the first schedule, in hundredths, and the peak memory in MiB. Each best schedule is
+checked here.
 
 psprove takes seconds by the clock, so nothing else should run beside it.
 
@@ -175,7 +176,8 @@ PROGRAMS = (
     ("gecode", "Gecode", gecode, "fzn-gecode"),
     ("z3", "z3", z3, "z3"),
 )
-Column = tuple[str, Callable[[str, str, Project, float], Found | None], str]  # its title, how a program runs, and that program
+# Its title, how a program runs, and that program.
+Column = tuple[str, Callable[[str, str, Project, float], Found | None], str]
 
 
 def fault(project: Project, starts: Sequence[int]) -> str | None:

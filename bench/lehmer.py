@@ -1,5 +1,5 @@
-"""Lehmer's generator with the multiplier 16807 modulo 2^31 - 1 (Bratley, Fox and Schrage 1983), as Taillard (1993) uses it.
-Whole numbers say all of it, so any program can draw the same."""
+"""Lehmer's generator with the multiplier 16807 modulo 2^31 - 1 (Bratley, Fox and Schrage 1983), as Taillard (1993) uses
+it. Whole numbers say all of it, so any program can draw the same."""
 import hashlib
 
 MODULUS = 2**31 - 1

@@ -1,16 +1,16 @@
 #!/usr/bin/env python3
 """bench/lots.py STORY LOTS SEED > PROJECT.sch
 
-Writes a project in which LOTS lots go through stages on a few shared machines, each by one of the routes of its STORY. From
-the end of a stage to the start of the next a lot has to wait for some time, and may wait a little longer: a maximum lag.
-STORY is one of
+Writes a project in which LOTS lots go through stages on a few shared machines, each by one of the routes of its STORY.
+From the end of a stage to the start of the next a lot has to wait for some time, and may wait a little longer: a
+maximum lag. STORY is one of
 
 perishable  doughs and creams that spoil: mixed, proved, baked, cooled, filled and packed
 sterile     parts that are washed, sterilized, filled, sealed and sterilized again, and stay sterile for some time
 curing      elements that one crane carries from tank to tank, and that must not stay in a bath for too long
 
-The route of a lot and the durations of its stages are drawn by Lehmer's generator (bench/lehmer.py), whose seed the SHA-256
-of "lots", STORY, LOTS and SEED gives: lot by lot, first the route. The same words give the same project."""
+The route of a lot and the durations of its stages are drawn by Lehmer's generator (bench/lehmer.py), whose seed the
+SHA-256 of "lots", STORY, LOTS and SEED gives: lot by lot, first the route. The same words give the same project."""
 import argparse
 import sys
 from typing import NamedTuple
@@ -20,7 +20,8 @@ from projects import Arc, Project
 
 
 class Stage(NamedTuple):
-    """The machine, the least and the most that it takes, and how long a lot has to wait and may wait longer after it."""
+    """The machine, the least and the most that it takes, and how long a lot has to wait and may wait longer after
+    it."""
     machine: str
     least: int
     most: int

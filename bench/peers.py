@@ -13,8 +13,8 @@ clasp begins below a schedule that psprove finds in `--start` seconds, 2 if not 
 With 0 it begins from nothing: with a ceiling of 1.15, 1.6 and 2.4 times the longest walk, and then with the sum of all
 durations and lags.
 
-Each schedule is checked. The last lines count what is proved, and name each project of which the two programs do not say
-the same."""
+Each schedule is checked. The last lines count what is proved, and name each project of which the two programs do not
+say the same."""
 import argparse
 import contextlib
 import csv

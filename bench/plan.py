@@ -1,17 +1,16 @@
 #!/usr/bin/env python3
 """bench/plan.py FOLDER [--set projects|small|large] [--only WORD] [--seconds S] [--jobs N]
 
-Prints a table of what `plan solve --jobs N` knows after S seconds (1 and 20 by default), which calls the psmax and psprove
-of FOLDER, beside one of them:
+Prints a table of what `plan solve --jobs N` knows after S seconds (1 and 20 by default), which calls the psmax and
+psprove of FOLDER, beside one of them:
 
 projects  those of planner/projects, beside `psmax solve`, which gets as many nodes as take about S seconds
 small     40 generated projects of 20 to 60 activities, beside `psprove solve --jobs 1`
 large     ten of 100 to 500 activities, beside the same
 
-`--only` takes those alone whose name has the word.
-Each record of plan has to be accepted by `psprove verify`, with the answer that was printed; those below 200,000 bytes also
-by tests/verify_log.py. Seconds are those of a clock. The last lines count what was proved, and tell the load before and
-after."""
+`--only` takes those alone whose name has the word. Each record of plan has to be accepted by `psprove verify`, with the
+answer that was printed; those below 200,000 bytes also by tests/verify_log.py. Seconds are those of a clock. The last
+lines count what was proved, and tell the load before and after."""
 import argparse
 import os
 import pathlib

@@ -1,9 +1,11 @@
 #!/usr/bin/env python3
-"""bench/progen.py N SEED [--order O] [--redundancy R] [--cycles C] [--slack W] [--factor F] [--strength S] > PROJECT.sch
+"""bench/progen.py N SEED [--order O] [--redundancy R] [--cycles C] [--slack W] [--factor F] [--strength S] >
+PROJECT.sch
 
 Writes a project of N activities after ProGen/max (Schwindt 1998), the same for the same words. All numbers are whole;
-shares are in hundredths. Lehmer's generator (bench/lehmer.py) draws all of it, in this order, from a seed that the SHA-256
-of "progen", N, SEED and the options in the order above gives. To draw from A to B is to draw any of these evenly.
+shares are in hundredths. Lehmer's generator (bench/lehmer.py) draws all of it, in this order, from a seed that the
+SHA-256 of "progen", N, SEED and the options in the order above gives. To draw from A to B is to draw any of these
+evenly.
 
 Durations. One from 1 to 10 for each activity.
 
@@ -14,8 +16,8 @@ come to be in an order. Then an arc goes if another path leads from its tail to 
 that at least R hundredths of the arcs are redundant: two activities are drawn, each from 1 to N, until a path and no
 arc leads from the lesser to the greater, or 100 N pairs have been drawn.
 
-Minimum lags. One for each arc in the order of tails and heads, from half of the tail's duration, rounded up, to one and a
-half, rounded down.
+Minimum lags. One for each arc in the order of tails and heads, from half of the tail's duration, rounded up, to one and
+a half, rounded down.
 
 Cycle structures. A cycle structure is a largest set of activities that are all tied in both directions. There are C of
 them, if C is not said one for each ten activities. An activity is drawn from 1 to N, and a number of steps from 1 to

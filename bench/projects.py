@@ -3,11 +3,11 @@
 
 Writes a project of N activities with minimum and maximum lags, the same for the same numbers.
 
-Each activity has one to three followers among the next eight (--reach), with a minimum lag of its duration or less,
-and now and then a maximum lag back, which leaves the earliest starts of the minimum lags feasible, so that
-no lags contradict each other. An activity uses a resource with probability P, and then about T of these fit at
-once. With --wide the resources have capacities of 12 to 24, an activity uses most of them, each by an eighth to a third of
-its capacity, and one in twelve uses more than half of one: few are rivals."""
+Each activity has one to three followers among the next eight (--reach), with a minimum lag of its duration or less, and
+now and then a maximum lag back, which leaves the earliest starts of the minimum lags feasible, so that no lags
+contradict each other. An activity uses a resource with probability P, and then about T of these fit at once. With
+--wide the resources have capacities of 12 to 24, an activity uses most of them, each by an eighth to a third of its
+capacity, and one in twelve uses more than half of one: few are rivals."""
 import argparse
 import random
 import sys

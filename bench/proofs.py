@@ -1,12 +1,12 @@
 #!/usr/bin/env python3
 """bench/proofs.py PSMAX PSPROVE [--seconds S] [--sizes N..] [--jobs J]
 
-What both programs prove of generated projects in some S seconds (20 by default), as a Markdown table: six projects of each size
-N: two each whose activities follow near ones, of which some three fit at once; whose activities follow any; and whose
-resources are wide. `psmax solve` gets as many nodes as it would take in S seconds at its first speed. Each record
-of psprove is checked by `psprove verify`, and where it is below 200,000 bytes by tests/verify_log.py. Seconds are of a
-processor. J projects (2 by default) are tried side by side. The last lines count what was proved, and name where a bound of
-psprove is below that of psmax."""
+What both programs prove of generated projects in some S seconds (20 by default), as a Markdown table: six projects of
+each size N: two each whose activities follow near ones, of which some three fit at once; whose activities follow any;
+and whose resources are wide. `psmax solve` gets as many nodes as it would take in S seconds at its first speed. Each
+record of psprove is checked by `psprove verify`, and where it is below 200,000 bytes by tests/verify_log.py. Seconds
+are of a processor. J projects (2 by default) are tried side by side. The last lines count what was proved, and name
+where a bound of psprove is below that of psmax."""
 import argparse
 import concurrent.futures
 import json

@@ -1,10 +1,10 @@
 #!/usr/bin/env python3
 """bench/record_speed.py PROGRAM
 
-Measures what a record costs, on the first job shop of Fisher and Thompson and on three projects of bench/projects.py that
-one worker searches to the end, and prints a table: the nodes that were opened, the seconds of a search by one worker, of
-the same with a record, and of `verify`, and the record's bytes and how many these are to a node. Times are processor time,
-the best of five runs, without those of starting the program."""
+Measures what a record costs, on the first job shop of Fisher and Thompson and on three projects of bench/projects.py
+that one worker searches to the end, and prints a table: the nodes that were opened, the seconds of a search by one
+worker, of the same with a record, and of `verify`, and the record's bytes and how many these are to a node. Times are
+processor time, the best of five runs, without those of starting the program."""
 import pathlib
 import sys
 import tempfile

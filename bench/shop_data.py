@@ -1,8 +1,8 @@
 """Published shops of Fisher and Thompson (1963), Lawrence (1984) and Taillard (1993).
 
-Lawrence's are written down from memory. Each row of la16 to la20 has the times of two rows of la11 to la15, and each of la01
-to la10, but for thirty of la02, la07, la08 and la09, those of one: all of these agree, once a row of la15 and one of la20 had
-been put right by each other. Nothing but the published makespans holds the orders of the machines."""
+Lawrence's are written down from memory. Each row of la16 to la20 has the times of two rows of la11 to la15, and each of
+la01 to la10, but for thirty of la02, la07, la08 and la09, those of one: all of these agree, once a row of la15 and one
+of la20 had been put right by each other. Nothing but the published makespans holds the orders of the machines."""
 
 # A row for each job, with machine and time of each operation in order.
 ROWS = {

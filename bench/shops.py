@@ -2,13 +2,13 @@
 """bench/shops.py NAME [--seeds TIMES MACHINES] [--open] [--wait W] > PROJECT.sch
 
 Writes a job shop, or with `--open` an open shop, as a project: an operation is an activity, a machine a resource of
-capacity 1. An open shop has a resource for each job too, and its operations come in any order. With `--wait W` an operation
-starts at most W periods after the one before it in its job has ended: 0 is no wait at all.
+capacity 1. An open shop has a resource for each job too, and its operations come in any order. With `--wait W` an
+operation starts at most W periods after the one before it in its job has ended: 0 is no wait at all.
 
-NAME is a shop of bench/shop_data.py: ft06, ft10 and ft20 (Fisher and Thompson 1963), la01 to la20 (Lawrence 1984), ta01 to
-ta20 (Taillard 1993), his open shops tai4_1 to tai7_10; or JOBSxMACHINES, such as 20x15. Shops of the last three kinds are
-made by Taillard's generator from a seed of the times and one of the machines, 1 and 2 if not said. An operation takes 1 to
-99 periods."""
+NAME is a shop of bench/shop_data.py: ft06, ft10 and ft20 (Fisher and Thompson 1963), la01 to la20 (Lawrence 1984), ta01
+to ta20 (Taillard 1993), his open shops tai4_1 to tai7_10; or JOBSxMACHINES, such as 20x15. Shops of the last three
+kinds are made by Taillard's generator from a seed of the times and one of the machines, 1 and 2 if not said. An
+operation takes 1 to 99 periods."""
 import argparse
 import re
 import sys

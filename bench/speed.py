@@ -32,7 +32,8 @@ JOB_SHOPS = ((10, 5, 10_000, 3), (10, 10, 10_000, 3))
 SMALL_JOB_SHOP = measuring.TOP / "tests" / "inputs" / "job-shop-6-by-6.sch"
 SMALL_TAKES = 442
 
-Measured = tuple[float, float, float]  # the seconds of the takes after the first, the peak memory, the seconds up to the first
+# The seconds of the takes after the first, the peak memory, the seconds up to the first.
+Measured = tuple[float, float, float]
 
 
 def measured(programs: Sequence[str], text: bytes, takes: int) -> list[Measured]:

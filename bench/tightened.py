@@ -2,8 +2,9 @@
 """bench/tightened.py FILE [SHARE] > PROJECT.sch
 
 Writes the project of a text with tighter maximum lags; without SHARE it has none. The room of a maximum lag is how much
-longer it is than the longest path of minimum lags between its two activities. SHARE hundredths of it stay, rounded down:
-100 is the project itself, 0 leaves no room. A maximum lag without such a path, or without room, stays as it is."""
+longer it is than the longest path of minimum lags between its two activities. SHARE hundredths of it stay, rounded
+down: 100 is the project itself, 0 leaves no room. A maximum lag without such a path, or without room, stays as it
+is."""
 import argparse
 import pathlib
 import sys

@@ -1,9 +1,10 @@
 #!/usr/bin/env python3
 """bench/watch.py [--saves N]
 
-Prints how long `plan watch` takes from a save (20 by default) to the first schedule on the screen of Chromium, and until its
-search has ended, and how long it takes to draw all anew: for the turnaround of 74 activities, of which a duration changes,
-and for 300 activities, which get 2 seconds. Needs Debian's chromium, chromium-driver and python3-selenium."""
+Prints how long `plan watch` takes from a save (20 by default) to the first schedule on the screen of Chromium, and
+until its search has ended, and how long it takes to draw all anew: for the turnaround of 74 activities, of which a
+duration changes, and for 300 activities, which get 2 seconds. Needs Debian's chromium, chromium-driver and
+python3-selenium."""
 import argparse
 import os
 import pathlib
@@ -48,7 +49,8 @@ TABLES = {"turnaround": (74, turnaround), "300 jobs": (300, large)}
 
 
 def measured(driver: Any, watch: Watching, text: str) -> tuple[float, float, float]:
-    """The seconds from a save to the first schedule on the screen, and to the end of the search; and to draw all anew."""
+    """The seconds from a save to the first schedule on the screen, and to the end of the search; and to draw all
+    anew."""
     known = driver.execute_script("return document.body.dataset.shown")
     begun = time.time()
     watch.table.write_text(text)

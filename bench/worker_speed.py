@@ -2,10 +2,10 @@
 """bench/worker_speed.py PROGRAM
 
 Measures a search by workers on projects of bench/projects.py on which it is stopped by --nodes, and prints a table: how
-many nodes are taken in a second without workers, by one worker, and by more, and how many times one worker's rate that is.
-Times are by the clock, from the first take to the last, the best of five runs: several threads need a machine with as many
-idle processors. Takes without workers go depth first, and those of workers to the least bound first, so the nodes are
-others, and a worker goes a longer way from one to the next."""
+many nodes are taken in a second without workers, by one worker, and by more, and how many times one worker's rate that
+is. Times are by the clock, from the first take to the last, the best of five runs: several threads need a machine with
+as many idle processors. Takes without workers go depth first, and those of workers to the least bound first, so the
+nodes are others, and a worker goes a longer way from one to the next."""
 import os
 import sys
 from collections.abc import Sequence

@@ -2,8 +2,8 @@
 """python/installing.py install | uninstall
 
 Installs psmax, psprove, plan, the package, the checkers, the manual pages and the documents below $DESTDIR$PREFIX, or
-removes them. $AT_HAND is the folder of the programs. What was made is written down, so nothing of it is left, and nothing
-else is removed. A link of a document to a file that is not installed becomes its text."""
+removes them. $AT_HAND is the folder of the programs. What was made is written down, so nothing of it is left, and
+nothing else is removed. A link of a document to a file that is not installed becomes its text."""
 import json
 import os
 import pathlib
@@ -91,8 +91,8 @@ class Place:
             self.made[kind].append(told)
 
     def uninstall(self) -> None:
-        """All that was made, and no folder in which something else is. Version 1.0 wrote nothing down: its programs and pages
-        are these, and its folders stay."""
+        """All that was made, and no folder in which something else is. Version 1.0 wrote nothing down: its programs and
+        pages are these, and its folders stay."""
         names = (*packing.PROGRAMS, "plan")
         older = [self.prefix / place for name in names for place in (f"bin/{name}", f"share/man/man1/{name}.1")]
         for path in [self.root / told for told in self.made["files"]] or older:

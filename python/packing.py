@@ -1,5 +1,5 @@
-"""The build backend of the package psmax (PEP 517), which pip calls. It writes a wheel with the released programs inside, or an
-archive of the sources that a wheel is made of. It needs no other package and leaves nothing in the tree.
+"""The build backend of the package psmax (PEP 517), which pip calls. It writes a wheel with the released programs
+inside, or an archive of the sources that a wheel is made of. It needs no other package and leaves nothing in the tree.
 
 python3 python/packing.py FOLDER writes the wheel into FOLDER."""
 import base64

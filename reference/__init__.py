@@ -1,5 +1,6 @@
-"""Reference values: projects, each with its optimum, or the certainty that it has no schedule, or a bound, and with a record of
-that. docs/REFERENCE.md is their page. They stand on the package, the benches and the tests of this repository."""
+"""Reference values: projects, each with its optimum, or the certainty that it has no schedule, or a bound, and with a
+record of that. docs/REFERENCE.md is their page. They stand on the package, the benches and the tests of this
+repository."""
 import pathlib
 import sys
 

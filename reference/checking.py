@@ -1,10 +1,10 @@
 """reference/check NAME [--record FILE] [--psprove FILE]
 
-Makes the record of a row of values.csv and has it verified: writes the project by the row's words, searches it within the
-row's limit of conflicts, and asks `psprove verify` and tests/verify_log.py, which shares nothing with psprove, what the record
-proves. Both have to say what the row says. The project's text has to have the row's SHA-256, and the record too, where the
-row is of this psprove. A row that was submitted has its record in reference/records, which is verified in place of one that
-is made. With --record the record is kept in FILE."""
+Makes the record of a row of values.csv and has it verified: writes the project by the row's words, searches it within
+the row's limit of conflicts, and asks `psprove verify` and tests/verify_log.py, which shares nothing with psprove, what
+the record proves. Both have to say what the row says. The project's text has to have the row's SHA-256, and the record
+too, where the row is of this psprove. A row that was submitted has its record in reference/records, which is verified
+in place of one that is made. With --record the record is kept in FILE."""
 import argparse
 import pathlib
 import sys
@@ -30,7 +30,8 @@ def record_of(program: pathlib.Path, row: Row, text: bytes) -> bytes:
 
 
 def differences(row: Row, found: Row, version: str) -> list[str]:
-    """What a search says otherwise than the row. One by another psprove may know more or less; it must not contradict."""
+    """What a search says otherwise than the row. One by another psprove may know more or less; it must not
+    contradict."""
     if row["version"] == version:
         return [f"{head} {found[head]}, not {row[head]}" for head in FOUND if found[head] != row[head]]
     return contradictions(row, found) + contradictions(found, row)

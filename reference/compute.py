@@ -1,11 +1,11 @@
 """python3 -m reference.compute [--jobs N] [--psprove FILE] [--only WORD]
 
-Computes the rows of values.csv that are not of this psprove, N at a time (1 by default): each project's text, a search with
-one job within its limit of conflicts, and both checkers' judgement of the record. The table is written after each row, so
-a run that was cut off goes on where it stood. Records below 20,000 bytes go into reference/records. A row with a greater
-bound or a shorter schedule than a new one stays as it is, and is told. A makespan or a bound that contradicts a published
-one ends the run, and so does a record that a checker does not accept. With `--only` only projects are looked at whose name
-has the word."""
+Computes the rows of values.csv that are not of this psprove, N at a time (1 by default): each project's text, a search
+with one job within its limit of conflicts, and both checkers' judgement of the record. The table is written after each
+row, so a run that was cut off goes on where it stood. Records below 20,000 bytes go into reference/records. A row with
+a greater bound or a shorter schedule than a new one stays as it is, and is told. A makespan or a bound that contradicts
+a published one ends the run, and so does a record that a checker does not accept. With `--only` only projects are
+looked at whose name has the word."""
 import argparse
 import csv
 import pathlib

@@ -1,5 +1,5 @@
-"""Which projects the table has: for each its name, its family, the words that write its text, and how many conflicts its search
-may take."""
+"""Which projects the table has: for each its name, its family, the words that write its text, and how many conflicts
+its search may take."""
 import itertools
 from collections.abc import Iterator
 from typing import NamedTuple

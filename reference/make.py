@@ -1,7 +1,7 @@
 """python3 -m reference.make [FOLDER]
 
-Writes the project of each row of values.csv into FOLDER (build/reference by default), as NAME.sch, and wants its SHA-256 to be
-the row's."""
+Writes the project of each row of values.csv into FOLDER (build/reference by default), as NAME.sch, and wants its
+SHA-256 to be the row's."""
 import pathlib
 import sys
 from collections.abc import Iterator

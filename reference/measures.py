@@ -1,4 +1,5 @@
-"""What a project is like: its sizes, its order strength and its resource strength (docs/REFERENCE.md has their definitions)."""
+"""What a project is like: its sizes, its order strength and its resource strength (docs/REFERENCE.md has their
+definitions)."""
 from collections.abc import Sequence
 
 from networks import peak
@@ -21,8 +22,8 @@ def order_strength(project: Project) -> float:
 
 
 def rooms(project: Project, starts: Sequence[int]) -> tuple[int, int]:
-    """How many units the resources have above what the neediest activity needs of each, and how many more than that all need at
-    most at these starts."""
+    """How many units the resources have above what the neediest activity needs of each, and how many more than that all
+    need at most at these starts."""
     there = wanted = 0
     for k, capacity in enumerate(project.capacities):
         least = max(row[k] for row in project.demands)

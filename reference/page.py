@@ -1,7 +1,7 @@
 """python3 -m reference.page
 
-The parts of docs/REFERENCE.md that the table says, and its pictures. Each part stands between a comment with its name and the
-comment `end`."""
+The parts of docs/REFERENCE.md that the table says, and its pictures. Each part stands between a comment with its name
+and the comment `end`."""
 import re
 import statistics
 from collections.abc import Sequence

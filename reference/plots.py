@@ -1,5 +1,5 @@
-"""The pictures of docs/REFERENCE.md, drawn as `plan` draws charts: a bar for each number of activities and each resource
-strength of the projects after ProGen/max."""
+"""The pictures of docs/REFERENCE.md, drawn as `plan` draws charts: a bar for each number of activities and each
+resource strength of the projects after ProGen/max."""
 import math
 from collections.abc import Iterable, Iterator
 from itertools import groupby

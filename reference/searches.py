@@ -108,8 +108,8 @@ def must_prove(row: Row, said: str, by: str) -> None:
 
 def computed(program: pathlib.Path, version: str, listed: Listed, published: dict[str, Published],
              source: str) -> tuple[Row, bytes | None]:
-    """The row of a project, whose record `psprove verify` has accepted; the record too if it is small, which the other checker
-    has accepted as well."""
+    """The row of a project, whose record `psprove verify` has accepted; the record too if it is small, which the other
+    checker has accepted as well."""
     text = text_of(listed.words)
     found = search(program, text, listed.limit)
     known = published.get(listed.name)

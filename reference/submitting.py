@@ -1,8 +1,9 @@
 """reference/submit FILE [--psprove FILE]
 
-Takes a record that proves more than the table has: FILE is NAME.log, a log of lemmas by any program for the project of the
-row NAME. `psprove verify` has to accept it. The row then has its status, its makespan (that of the last schedule of the log),
-its bound and its digest, and the record goes into reference/records. All records there have 3 MB together at most."""
+Takes a record that proves more than the table has: FILE is NAME.log, a log of lemmas by any program for the project of
+the row NAME. `psprove verify` has to accept it. The row then has its status, its makespan (that of the last schedule of
+the log), its bound and its digest, and the record goes into reference/records. All records there have 3 MB together at
+most."""
 import argparse
 import io
 import pathlib

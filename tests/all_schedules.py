@@ -1,7 +1,7 @@
 """All feasible schedules of a small project up to its horizon, and which of them meet an arc.
 
-A set of schedules is a number whose bit K stands for schedule K. Nothing here is shared with a checker: the project is the
-one that was drawn, not one that was read."""
+A set of schedules is a number whose bit K stands for schedule K. Nothing here is shared with a checker: the project is
+the one that was drawn, not one that was read."""
 import functools
 from collections.abc import Iterator, Sequence
 

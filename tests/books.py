@@ -1,8 +1,8 @@
 #!/usr/bin/env python3
 """tests/books.py PROGRAM [--only WORD]
 
-Plays each paragraph of tests/books.txt by the program of crates/book_events, and compares each reply. The last line counts
-the replies."""
+Plays each paragraph of tests/books.txt by the program of crates/book_events, and compares each reply. The last line
+counts the replies."""
 import re
 from collections.abc import Iterator, Sequence
 

@@ -1,4 +1,5 @@
-"""Calls of psmax and of psprove on the smallest projects that reach each of their paths, and what they have to answer."""
+"""Calls of psmax and of psprove on the smallest projects that reach each of their paths, and what they have to
+answer."""
 import json
 import re
 from collections.abc import Callable
@@ -48,7 +49,8 @@ VERIFY = ["verify", "--project", "second"]
 
 
 def shortest_of_three(out: bytes, record: bytes) -> bool:
-    """Whether an answer is a shortest schedule of three jobs on two machines, and a record, if there is one, proves it."""
+    """Whether an answer is a shortest schedule of three jobs on two machines, and a record, if there is one, proves
+    it."""
     first, *lines = out.decode().splitlines()
     starts = [int(line.split()[1]) for line in lines]
     judge = verify.Project(THREE)
@@ -66,8 +68,8 @@ def without_reports(fault: bytes) -> bytes:
 
 
 class Call:
-    """One call: its words, and the texts of standard input and of the files `second` and `more`; and the usual status, output
-    and fault, and record."""
+    """One call: its words, and the texts of standard input and of the files `second` and `more`; and the usual status,
+    output and fault, and record."""
 
     def __init__(self, words: list[str], text: bytes, second: bytes = b"", exit: int = 0, out: bytes = b"", fault: bytes = b"",
                  record: bytes = b"", answer: Callable[[bytes, bytes], bool] | None = None, more: bytes = b"") -> None:
@@ -165,8 +167,8 @@ def parts(out: bytes) -> tuple[str, list[int]]:
 
 
 def stopped(text: bytes, makespan: int) -> Callable[[bytes, bytes], bool]:
-    """Whether an answer of a search that was stopped is true of a project whose shortest schedule is so long: a feasible one,
-    if any, and a bound, which a log proves, if there is one."""
+    """Whether an answer of a search that was stopped is true of a project whose shortest schedule is so long: a
+    feasible one, if any, and a bound, which a log proves, if there is one."""
     judge = verify.Project(text)
 
     def is_right(out: bytes, record: bytes) -> bool:
@@ -182,8 +184,8 @@ def stopped(text: bytes, makespan: int) -> Callable[[bytes, bytes], bool]:
 
 
 def solved(text: bytes, makespan: int | None) -> Callable[[bytes, bytes], bool]:
-    """Whether an answer of psprove, in lines or as JSON, has a shortest schedule of a project, or says that there is none,
-    and a log, if there is one, proves it."""
+    """Whether an answer of psprove, in lines or as JSON, has a shortest schedule of a project, or says that there is
+    none, and a log, if there is one, proves it."""
     judge = verify.Project(text)
     says = "no schedule" if makespan is None else f"optimal {makespan}"
 
@@ -199,8 +201,8 @@ def solved(text: bytes, makespan: int | None) -> Callable[[bytes, bytes], bool]:
 
 
 def in_cube(text: bytes, makespan: int | None, pieces: int = 0) -> Callable[[bytes, bytes], bool]:
-    """Whether an answer is of a cube that is refuted, with a shortest schedule of so long if it has any, or that stays open and
-    is split into so many pieces; and whether its log is right so far."""
+    """Whether an answer is of a cube that is refuted, with a shortest schedule of so long if it has any, or that stays
+    open and is split into so many pieces; and whether its log is right so far."""
     judge = verify.Project(text)
 
     def is_right(out: bytes, record: bytes) -> bool:

@@ -1,9 +1,9 @@
 #!/usr/bin/env python3
 """tests/check_one.py CRATE_FOLDER FUNCTION [WORDS..]
 
-Proves the functions of a name in a crate, over the sources of the crates below: each is checked against the contracts of what
-it calls, and nothing below has to be proved or built. That takes some minutes of a processor, most of it to load. It is no
-verdict: `rt ci` is. Further words go to `rattle check`, which the library of `rt` calls."""
+Proves the functions of a name in a crate, over the sources of the crates below: each is checked against the contracts
+of what it calls, and nothing below has to be proved or built. That takes some minutes of a processor, most of it to
+load. It is no verdict: `rt ci` is. Further words go to `rattle check`, which the library of `rt` calls."""
 import importlib.machinery
 import importlib.util
 import os

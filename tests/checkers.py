@@ -1,4 +1,5 @@
-"""The checkers in Python of a folder, verify.py and verify_log.py: those of tests/, or copies of them that were changed."""
+"""The checkers in Python of a folder, verify.py and verify_log.py: those of tests/, or copies of them that were
+changed."""
 import importlib.util
 import io
 import sys

@@ -4,9 +4,9 @@
 Runs psmax, or with --proofs psprove, on devices of the system that go in pieces or fail: pipes that give few bytes at
 once; standard input that fails after each number of bytes, that is a folder, that is closed, or that never ends; other
 inputs and records whose names are of folders, of sockets, of links to themselves, or of nothing; files that may have no
-more than each number of bytes, for the answer and for the record; a full device; closed output; and readers that have gone.
-Standard error fails, too, in searches that report on it. Where a device fails the program has to say so, with status 1, and
-what it wrote has to be a beginning of what it was to write.
+more than each number of bytes, for the answer and for the record; a full device; closed output; and readers that have
+gone. Standard error fails, too, in searches that report on it. Where a device fails the program has to say so, with
+status 1, and what it wrote has to be a beginning of what it was to write.
 
 The last line counts the runs."""
 import os
@@ -112,8 +112,8 @@ class Calls:
         return list({(call.words[0], options(call)): call for call in calls if call.usual[0] in (0, 3)}.values())
 
     def reads_input(self, call: Call) -> bool:
-        """Whether standard input is read. psprove judges the project first, which is the second input of verify. Cubes and
-        their logs are in files."""
+        """Whether standard input is read. psprove judges the project first, which is the second input of verify. Cubes
+        and their logs are in files."""
         is_refused = self.name == "psprove" and call.words[0] == "verify" and call.usual[0] == 2
         return not is_refused and call.words[0] != "join" and "--under" not in call.words
 
@@ -121,7 +121,8 @@ class Calls:
         return f"{self.name}: {what}\n".encode()
 
     def is_fault(self, ended: Ended, run: Run, what: str, status: int = 1) -> bool:
-        """Whether a run ended with the fault alone, and no record was written. A beginning of one may be left beside it."""
+        """Whether a run ended with the fault alone, and no record was written. A beginning of one may be left beside
+        it."""
         return ended == (status, b"", self.fault(what)) and run.record() == b"" and run.is_part_right()
 
 
@@ -202,8 +203,8 @@ def no_input(calls: Calls) -> Tried:
 
 
 def no_files(calls: Calls) -> Tried:
-    """Names of what cannot be opened or read, for each file of a call. Nothing is written then. A record goes where a link
-    leads, which is what the fault names then."""
+    """Names of what cannot be opened or read, for each file of a call. Nothing is written then. A record goes where a
+    link leads, which is what the fault names then."""
     for call in calls.each_options():
         for name in call.files(*INPUTS, "--record"):
             for what, put in UNREADABLE.items():
@@ -220,8 +221,8 @@ def no_files(calls: Calls) -> Tried:
 
 
 def endless_input(calls: Calls) -> Tried:
-    """A device that always has more bytes. No more is read than a text may have, as far as there is memory: psmax takes the
-    bytes for a tree. Of a log of lemmas one event is read, and all bytes of one to go on from."""
+    """A device that always has more bytes. No more is read than a text may have, as far as there is memory: psmax takes
+    the bytes for a tree. Of a log of lemmas one event is read, and all bytes of one to go on from."""
     def limit() -> None:
         resource.setrlimit(resource.RLIMIT_AS, (MOST_MEMORY, MOST_MEMORY))
 
@@ -243,7 +244,8 @@ def endless_input(calls: Calls) -> Tried:
 
 
 def begun_record(calls: Calls, call: Call) -> int:
-    """How many bytes of a record are written before the answer: of psprove's all but the claim, which a cube has none of."""
+    """How many bytes of a record are written before the answer: of psprove's all but the claim, which a cube has none
+    of."""
     if "--under" in call.words:
         return len(call.record)
     if calls.name == "psmax" or not call.record:
@@ -310,7 +312,8 @@ def failing_output(calls: Calls) -> Tried:
 
 
 def failing_record(calls: Calls) -> Tried:
-    """A full device, and a reader that has gone, in place of the record. psmax has answered by then, psprove has not."""
+    """A full device, and a reader that has gone, in place of the record. psmax has answered by then, psprove has
+    not."""
     def is_answered(call: Call, out: bytes) -> bool:
         if calls.name == "psprove":
             return out == b""
@@ -337,8 +340,8 @@ def failing_record(calls: Calls) -> Tried:
 
 
 def failing_reports(calls: Calls) -> Tried:
-    """A full device, a reader that has gone, and files of few bytes, in place of standard error. A report that cannot be
-    written is lost, and the answer is the usual one."""
+    """A full device, a reader that has gone, and files of few bytes, in place of standard error. A report that cannot
+    be written is lost, and the answer is the usual one."""
     def is_usual(run: Run, ended: Ended) -> bool:
         return run.call.is_usual((*ended[:2], b""), run.record())
 

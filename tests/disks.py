@@ -1,7 +1,7 @@
 """What a disk may hold after a power cut, by the system calls of a run, which strace tells.
 
-A file is sure to have the bytes of its last fsync. Those that were written since may be there, be cut off, or be lost. A folder
-is sure to have the names of its last fsync; those that were given and taken since may be the older ones."""
+A file is sure to have the bytes of its last fsync. Those that were written since may be there, be cut off, or be lost.
+A folder is sure to have the names of its last fsync; those that were given and taken since may be the older ones."""
 import os
 import re
 import shutil
@@ -31,7 +31,8 @@ class File:
 
 @dataclass
 class Disk:
-    """Files by their names, as the system has them and as the disk is sure to keep them. Folders are kept with their names."""
+    """Files by their names, as the system has them and as the disk is sure to keep them. Folders are kept with their
+    names."""
     now: dict[str, File] = field(default_factory=dict)
     kept: dict[str, File] = field(default_factory=dict)
 

@@ -1,16 +1,17 @@
 #!/usr/bin/env python3
 """tests/fuzz.py PSMAX PSPROVE [--records N] [--seed S] [--only K] [--keep FOLDER] [--checkers FOLDER]
 
-Makes N records (5,000 by default), the same for the same S: half are records of a search, half are logs of lemmas. They are
-of small projects of which all feasible schedules are known, by trying all starts. Some are right; others are damaged, have
-parts of other records, have lines that are wrong by one, or claim more than they prove. `verify` of one of the programs,
-which reads either kind, and the checker in Python of the record's kind have to say the same of each, with the same place of
-the first fault. What they accept before that place has to be true of the schedules: a lemma of all in question, a node that
-is cut of all that are its own, and each starts, bound and claim. What is right has to be accepted.
+Makes N records (5,000 by default), the same for the same S: half are records of a search, half are logs of lemmas. They
+are of small projects of which all feasible schedules are known, by trying all starts. Some are right; others are
+damaged, have parts of other records, have lines that are wrong by one, or claim more than they prove. `verify` of one
+of the programs, which reads either kind, and the checker in Python of the record's kind have to say the same of each,
+with the same place of the first fault. What they accept before that place has to be true of the schedules: a lemma of
+all in question, a node that is cut of all that are its own, and each starts, bound and claim. What is right has to be
+accepted.
 
-With --only record K alone is made. Each record of which something wrong is said stands in the FOLDER of --keep, with its
-project. The checkers in Python are those of the folder of --checkers, of tests/ by default. The last line counts the
-records."""
+With --only record K alone is made. Each record of which something wrong is said stands in the FOLDER of --keep, with
+its project. The checkers in Python are those of the folder of --checkers, of tests/ by default. The last line counts
+the records."""
 import collections
 import functools
 import itertools

@@ -1,12 +1,12 @@
 #!/usr/bin/env python3
 """tests/gate.py test | prove | compare | gate | release
 
-test     runs every script on the programs at hand: those of build/, where psmax there is newer than the released one, else
-         those of release/. Needs no toolchain.
+test     runs every script on the programs at hand: those of build/, where psmax there is newer than the released one,
+         else those of release/. Needs no toolchain.
 prove    proves everything from nothing with `rt ci` (tests and must-fail edits too), and copies the programs to build/.
          With a kit that keeps what passed, ANEW=1 proves all of it again.
-compare  fails where release/ is not the release of these sources: by the checksum in release/SOURCES, and, where the kit is
-         that of the release, byte for byte with build/.
+compare  fails where release/ is not the release of these sources: by the checksum in release/SOURCES, and, where the
+         kit is that of the release, byte for byte with build/.
 gate     prove, compare, lint, and then test on what was proved, with the allocations of the tests that rt built.
 release  makes release/ of what build/ holds.
 
@@ -167,8 +167,8 @@ def test(parts: Parts, folder: pathlib.Path, with_tests: bool = False) -> None:
 
 
 def proved(words: Sequence[str], log: pathlib.Path) -> Counts:
-    """Runs `rt ci`. What its last line 'N passed, M failed' counts; one failure without such a line, or where the status says
-    more than the line."""
+    """Runs `rt ci`. What its last line 'N passed, M failed' counts; one failure without such a line, or where the
+    status says more than the line."""
     lines, clock = [""], time.monotonic()
     ran = subprocess.Popen(words, cwd=TOP, stdin=subprocess.DEVNULL, stdout=subprocess.PIPE, stderr=subprocess.STDOUT,
                            text=True, errors="replace")

@@ -1,10 +1,10 @@
 #!/usr/bin/env python3
 """tests/hostile.py PROGRAM [--bytes N] [--seconds S] [--script M] [--keep FOLDER]
 
-Has `PROGRAM verify` judge logs of lemmas that are made to take long, each of about N bytes (1,600,000 by default). What is
-said of each has to be true, within S processor seconds (2 by default). Prints what each took. Both PROGRAM and
-tests/verify_log.py judge the same logs of M bytes (16,000 by default). With --keep the texts stay in that folder. The last
-line counts all."""
+Has `PROGRAM verify` judge logs of lemmas that are made to take long, each of about N bytes (1,600,000 by default). What
+is said of each has to be true, within S processor seconds (2 by default). Prints what each took. Both PROGRAM and
+tests/verify_log.py judge the same logs of M bytes (16,000 by default). With --keep the texts stay in that folder. The
+last line counts all."""
 import functools
 import os
 import resource
@@ -169,8 +169,8 @@ def late_arc(size: int) -> Text:
 
 
 def long_chains(size: int) -> Text:
-    """Blocks of a chain that comes from its end. Each line tries a later start of its beginning, beside an overload that is
-    there in any case."""
+    """Blocks of a chain that comes from its end. Each line tries a later start of its beginning, beside an overload
+    that is there in any case."""
     n, lines = 60, 3 * LONG
     none = [(i, j, -MAX_WEIGHT) for i in range(1, n) for j in range(1, n)][:2 * n]
     chain = [(i, i + 1, 1) for i in range(n - 3, 0, -1)]

@@ -1,10 +1,10 @@
 #!/usr/bin/env python3
 """tests/hostile_trees.py PROGRAM [--bytes N] [--script M] [--keep FOLDER]
 
-Has `PROGRAM verify` judge records of psmax that are made to take long, each of about N bytes (500,000 by default), and then of
-four times as many. What each says has to be accepted, and four times the bytes may take at most eight times the processor
-seconds. Prints what each took. Both PROGRAM and tests/verify.py judge the same records of M bytes (8,000 by default). With
---keep the records stay in that folder. The last line counts all."""
+Has `PROGRAM verify` judge records of psmax that are made to take long, each of about N bytes (500,000 by default), and
+then of four times as many. What each says has to be accepted, and four times the bytes may take at most eight times the
+processor seconds. Prints what each took. Both PROGRAM and tests/verify.py judge the same records of M bytes (8,000 by
+default). With --keep the records stay in that folder. The last line counts all."""
 import functools
 import os
 from collections.abc import Callable, Iterable, Sequence
@@ -23,8 +23,8 @@ NOISE = 0.1  # seconds
 
 Lines = Iterable[str]
 
-# All activities are rivals, so the energy of the root is the makespan of any order: each node that is not dead may be cut.
-# Half of them end before 1 may start, and the other half starts after 2 ends: the pair (1, 2) changes many walks.
+# All activities are rivals, so the energy of the root is the makespan of any order: each node that is not dead may be
+# cut. Half of them end before 1 may start, and the other half starts after 2 ends: the pair (1, 2) changes many walks.
 ARCS = sorted([*((i, 1, LONG) for i in range(4, N // 2)), *((2, j, LONG) for j in range(N // 2, N + 1))])
 ORDER = [*range(4, N // 2), 3, 1, 2, *range(N // 2, N + 1)]
 STARTS = [0, *(LONG * ORDER.index(i) for i in range(1, N + 1)), N * LONG]

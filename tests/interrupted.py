@@ -2,10 +2,11 @@
 """tests/interrupted.py PSMAX PSPROVE [--kills N] [--points N] [--only WORD]
 
 Kills with signal 9 runs of plan (`solve`, `write`, and the driver of cubes), of psprove (`solve`, `--resume`, `join`,
-`--export`) and of psmax, N times each at random moments (twice by default), and cuts the power of a machine on which they run
-at N points each (20 by default): strace tells the system calls of a run, and what the disk may hold after each of them is made
-anew, by six rules. Each file that was named is whole then, or as it was before. The same command goes on, or names what is
-left of a record, from which a search goes on. Without strace the power stays on. The last line counts all."""
+`--export`) and of psmax, N times each at random moments (twice by default), and cuts the power of a machine on which
+they run at N points each (20 by default): strace tells the system calls of a run, and what the disk may hold after each
+of them is made anew, by six rules. Each file that was named is whole then, or as it was before. The same command goes
+on, or names what is left of a record, from which a search goes on. Without strace the power stays on. The last line
+counts all."""
 import random
 import shutil
 import time

@@ -16,8 +16,8 @@ def by_program(program: str, project: pathlib.Path, record: bytes, partial: bool
 
 
 def is_tree(program: str, record: bytes, partial: bool = False) -> bool:
-    """Whether `verify` of psmax or psprove takes a record for a tree: by its title. One of neither kind is taken for one of the
-    program's own, and one that may be cut off for lemmas."""
+    """Whether `verify` of psmax or psprove takes a record for a tree: by its title. One of neither kind is taken for
+    one of the program's own, and one that may be cut off for lemmas."""
     if partial:
         return False
     return not record.startswith(verify_log.TITLE) if program == "psmax" else record.startswith(TREE)

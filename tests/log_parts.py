@@ -2,9 +2,9 @@
 """tests/log_parts.py PSPROVE [--logs N]
 
 Checks logs of lemmas in 1, 2 and 5 parts, by `psprove verify --part`: the logs of tests/logs, the rows of faults.jsonl
-there, and N logs (500 by default) that are made of one that is right by one to three damages. All parts have to say what
-`psprove verify` says of the whole log. Only where that is a lemma, the part that has its event may be the one to say so.
-The last line counts the logs."""
+there, and N logs (500 by default) that are made of one that is right by one to three damages. All parts have to say
+what `psprove verify` says of the whole log. Only where that is a lemma, the part that has its event may be the one to
+say so. The last line counts the logs."""
 import functools
 import json
 import random

@@ -1,13 +1,13 @@
 #!/usr/bin/env python3
 """tests/logs.py PROGRAM [FOLDER] [--logs N]
 
-Has `PROGRAM verify` and tests/verify_log.py judge logs of lemmas, and wants the same of both, fault by fault. First each
-log of FOLDER (tests/logs by default), which has to be right. A log's project is the file of its name in that folder or in
-planner/projects. Then the rows of faults.jsonl there: each has a log in hexadecimal, and what is said of it. Last N logs
-(2,000 by default), the same for the same N: one of twenty is a log of a small project as a prover makes it, which has to be
-right, or one of FOLDER; the others are that log with one to three damages. What is proved of a small project is compared
-with its shortest schedule, which is found by trying all orders. A third of the logs are judged with --partial. Without a
-PROGRAM (the word -) the script is judged alone. The last line counts all."""
+Has `PROGRAM verify` and tests/verify_log.py judge logs of lemmas, and wants the same of both, fault by fault. First
+each log of FOLDER (tests/logs by default), which has to be right. A log's project is the file of its name in that
+folder or in planner/projects. Then the rows of faults.jsonl there: each has a log in hexadecimal, and what is said of
+it. Last N logs (2,000 by default), the same for the same N: one of twenty is a log of a small project as a prover makes
+it, which has to be right, or one of FOLDER; the others are that log with one to three damages. What is proved of a
+small project is compared with its shortest schedule, which is found by trying all orders. A third of the logs are
+judged with --partial. Without a PROGRAM (the word -) the script is judged alone. The last line counts all."""
 import functools
 import itertools
 import json
@@ -29,8 +29,9 @@ from log_damages import damaged
 
 EACH = 20  # logs made of one that is right
 SMALL = 3_000  # bytes of a log of the folder that is damaged
+# `line` of lines where a damage made it a tree.
 FAULT = re.compile(rb"psprove: (event \d+: (form|long|short|trailing|lemma|drop|schedule|claim)|"
-                   rb"line \d+: (form|short|trailing|start|force|set|leaf))\n")  # of lines where a damage made it a tree
+                   rb"line \d+: (form|short|trailing|start|force|set|leaf))\n")
 
 
 class Whole(NamedTuple):

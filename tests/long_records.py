@@ -1,10 +1,10 @@
 #!/usr/bin/env python3
 """tests/long_records.py PSPROVE
 
-Runs searches whose records are long, with one job and with four, while something fails that a short search does not meet: the
-record's file has room for a part of it alone, memory runs out, or a folder has taken the record's name in the meantime. The
-answer then is whole, or there is none, as the exit status says. An older record stays as it is, and what is left of the new
-one is right as far as it goes, and claims nothing. The last line counts the searches."""
+Runs searches whose records are long, with one job and with four, while something fails that a short search does not
+meet: the record's file has room for a part of it alone, memory runs out, or a folder has taken the record's name in the
+meantime. The answer then is whole, or there is none, as the exit status says. An older record stays as it is, and what
+is left of the new one is right as far as it goes, and claims nothing. The last line counts the searches."""
 import functools
 import pathlib
 import resource

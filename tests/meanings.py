@@ -1,6 +1,6 @@
-"""What the lines of a record say of all feasible schedules of a small project, event by event and line by line. No line of
-a proof is looked at here, only what is said: a lemma, a node that is cut, a bound. A checker that accepts what is false of
-the schedules is wrong, whatever stands in the record."""
+"""What the lines of a record say of all feasible schedules of a small project, event by event and line by line. No line
+of a proof is looked at here, only what is said: a lemma, a node that is cut, a bound. A checker that accepts what is
+false of the schedules is wrong, whatever stands in the record."""
 import itertools
 from collections.abc import Iterator, Sequence
 

@@ -1,5 +1,6 @@
-"""Lemmas that are false of a small project, each with a line that is wrong by as little as it may be: a load that just fits, a
-clique that has just room, rivals of which one just ends before the other starts. A checker that is off by one takes them."""
+"""Lemmas that are false of a small project, each with a line that is wrong by as little as it may be: a load that just
+fits, a clique that has just room, rivals of which one just ends before the other starts. A checker that is off by one
+takes them."""
 import functools
 import itertools
 import random

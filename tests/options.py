@@ -1,11 +1,11 @@
 #!/usr/bin/env python3
 """tests/options.py PSPROVE [--only WORD]
 
-Looks at what each option of `psprove solve` does to a search that no contract tells: that a search answers at all, how many
-jobs there are and that each searches, that each limit ends a search, that a seed changes it, that the same words give the same
-log, and that lemmas may take what --memory says; that the figures are those of the search; that a search goes on from the
-starts that it is given or hears, and that what it has found is told at a limit. --only takes the looks whose names have a
-word. The last line counts what was looked at."""
+Looks at what each option of `psprove solve` does to a search that no contract tells: that a search answers at all, how
+many jobs there are and that each searches, that each limit ends a search, that a seed changes it, that the same words
+give the same log, and that lemmas may take what --memory says; that the figures are those of the search; that a search
+goes on from the starts that it is given or hears, and that what it has found is told at a limit. --only takes the looks
+whose names have a word. The last line counts what was looked at."""
 import json
 import pathlib
 import subprocess

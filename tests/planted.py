@@ -1,10 +1,10 @@
 #!/usr/bin/env python3
 """tests/planted.py PSMAX PSPROVE [--records N] [--seed S] [--only WORD] [--first K]
 
-Plants bugs into copies of the two checkers in Python, one at a time, and has tests/fuzz.py find each within N records (5,000
-by default, as many as `make test` makes). Prints after how many, and whether it accepts what is false of a project there;
-otherwise it says something else than the program. With --first only the first K bugs are planted. The last line counts the
-bugs: one that is not found has failed."""
+Plants bugs into copies of the two checkers in Python, one at a time, and has tests/fuzz.py find each within N records
+(5,000 by default, as many as `make test` makes). Prints after how many, and whether it accepts what is false of a
+project there; otherwise it says something else than the program. With --first only the first K bugs are planted. The
+last line counts the bugs: one that is not found has failed."""
 import contextlib
 import shutil
 from collections.abc import Iterator, Sequence

@@ -19,8 +19,8 @@ PARTS = ("lemmas.part", "record.part")  # in the order in which a run looks for 
 
 
 class Task(NamedTuple):
-    """The words of a run, what is there before it, which of these files it writes, and whether a search goes on from what is
-    left of its record."""
+    """The words of a run, what is there before it, which of these files it writes, and whether a search goes on from
+    what is left of its record."""
 
     program: str
     words: list[str]

@@ -1,9 +1,9 @@
 #!/usr/bin/env python3
 """tests/psmax_options.py PSMAX
 
-Looks at what each option of `psmax solve` does to a search that no contract tells: how many workers there are, also where
-the search begins with starts or writes a record; that several workers answer by a line of JSON, too; and that a search may
-take more nodes than it takes by default. The last line counts what was looked at."""
+Looks at what each option of `psmax solve` does to a search that no contract tells: how many workers there are, also
+where the search begins with starts or writes a record; that several workers answer by a line of JSON, too; and that a
+search may take more nodes than it takes by default. The last line counts what was looked at."""
 import json
 import pathlib
 import subprocess

@@ -36,7 +36,8 @@ class Recorded:
         self.record = record.read_bytes() if self.is_recorded else b""
 
     def disagreement(self, record: bytes) -> str | None:
-        """Why both don't say the same of a record of this project, or prove something else than the verdict; or None."""
+        """Why both don't say the same of a record of this project, or prove something else than the verdict; or
+        None."""
         by_program = judges.by_program(self.program, self.path, record)
         by_script = judges.by_script(self.project, record)
         if by_program != by_script:

@@ -1,16 +1,16 @@
 #!/usr/bin/env python3
 """tests/reference_values.py PSPROVE [--drawn N] [--seconds S] [--seed K]
 
-Looks through reference/values.csv. Each row is of a project that reference/families.py lists. Its words write the text whose
-SHA-256 it has, with the sizes and strengths that it says, which are measured here anew; a project after ProGen/max has
-those that its words ask for. Each record of reference/records has the row's SHA-256 and proves what the row says, as PSPROVE
-judges it; records have 3 MB together at most. docs/REFERENCE.md says what the table says.
+Looks through reference/values.csv. Each row is of a project that reference/families.py lists. Its words write the text
+whose SHA-256 it has, with the sizes and strengths that it says, which are measured here anew; a project after
+ProGen/max has those that its words ask for. Each record of reference/records has the row's SHA-256 and proves what the
+row says, as PSPROVE judges it; records have 3 MB together at most. docs/REFERENCE.md says what the table says.
 
-N rows (10 by default), drawn by the seed K (1) from those whose search took at most S seconds (0.5), are searched anew by
-PSPROVE, which judges the record; tests/verify_log.py has to say the same of one below 200,000 bytes. Where the row is of this
-PSPROVE, all has to be as it is, the record's digest too. Else no schedule may be shorter than a bound, and a line says of
-which psprove the table is. Last, changed values and digests have to be found, and records are submitted to a copy of the
-table. The last line counts all."""
+N rows (10 by default), drawn by the seed K (1) from those whose search took at most S seconds (0.5), are searched anew
+by PSPROVE, which judges the record; tests/verify_log.py has to say the same of one below 200,000 bytes. Where the row
+is of this PSPROVE, all has to be as it is, the record's digest too. Else no schedule may be shorter than a bound, and a
+line says of which psprove the table is. Last, changed values and digests have to be found, and records are submitted to
+a copy of the table. The last line counts all."""
 import pathlib
 import random
 import shutil
@@ -32,8 +32,9 @@ Pair = tuple[int, int]
 
 
 class Measured:
-    """A project by code of its own: its order strength, and for each resource the units above what the neediest activity needs,
-    those that are there and those that all need at their earliest starts; none where the lags contradict each other."""
+    """A project by code of its own: its order strength, and for each resource the units above what the neediest
+    activity needs, those that are there and those that all need at their earliest starts; none where the lags
+    contradict each other."""
 
     def __init__(self, text: bytes) -> None:
         self.project = verify.Project(text)

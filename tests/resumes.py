@@ -2,9 +2,9 @@
 """tests/resumes.py PSPROVE
 
 Stops searches of a job shop in the middle: at a limit, by the file of --until, and by a kill. What is on the disk then
-has to prove the bound that was told, by `psprove verify`, and an older record has to be whole as long as the search goes
-on. Then the search is resumed, with one job and with four, and has to end with the optimum, with
-a record that begins with the events before. Logs that are wrong or of another project are refused. The last line counts the
+has to prove the bound that was told, by `psprove verify`, and an older record has to be whole as long as the search
+goes on. Then the search is resumed, with one job and with four, and has to end with the optimum, with a record that
+begins with the events before. Logs that are wrong or of another project are refused. The last line counts the
 trials."""
 import json
 import pathlib

@@ -83,8 +83,8 @@ def otherwise(what: str, got: bytes, wanted: str | Spec, inputs: Path) -> Iterat
 
 
 def unverified(program: str, folder: Path, inputs: Path, out: bytes, project: Spec, record: str) -> Iterator[str]:
-    """What is wrong with a record: the program and a checker that shares nothing with it must accept it with the verdict, which
-    for a search that was stopped is its bound."""
+    """What is wrong with a record: the program and a checker that shares nothing with it must accept it with the
+    verdict, which for a search that was stopped is its bound."""
     if not (folder / record).exists():
         yield f"no {record}"
         return

@@ -6,8 +6,8 @@ verdict of both. The starts of psprove have to pass `psmax check`, and its recor
 verify` and, below 100,000 bytes, by tests/verify_log.py. Then psprove alone solves N projects of 62 to 250 activities
 (40 by default), every second with four jobs, of which psmax can prove few. Ten projects are solved twice by the same
 words, which have to give the same bytes. Three projects, of which one has no schedule, are solved with all times
-multiplied by 997. The records of two have to have a line of each kind that only long searches write. The last line counts
-the projects."""
+multiplied by 997. The records of two have to have a line of each kind that only long searches write. The last line
+counts the projects."""
 import functools
 import io
 import pathlib
@@ -26,7 +26,8 @@ MOST_BYTES = 100_000
 # Seeds of small projects whose times are multiplied, the first without a schedule; and by how much.
 STRETCHED, FACTOR = (128, 7, 36), 997
 
-# Projects, and what their records show: an order by a clique is an edge, and a bound by a load of several periods energy.
+# Projects, and what their records show: an order by a clique is an edge, and a bound by a load of several periods
+# energy.
 KINDS = (
     (shops.project(shops.named("la02")), {"clique order", "clique bound"}),
     (projects.wide(40, 2, 5), {"load bound", "load contradiction"}),

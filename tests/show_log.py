@@ -3,10 +3,9 @@
 
     show_log.py < LOG
 
-An arc (I, J, V) is I>J:V. A line that shows an arc ends with `shows` and this arc. A log that is cut, or has bytes that are
-no event, is printed so far, and the fault then stands on standard error, with exit status 4. Whether an event is right is
-not looked at.
-"""
+An arc (I, J, V) is I>J:V. A line that shows an arc ends with `shows` and this arc. A log that is cut, or has bytes that
+are no event, is printed so far, and the fault then stands on standard error, with exit status 4. Whether an event is
+right is not looked at. """
 import sys
 from typing import BinaryIO
 

@@ -41,7 +41,8 @@ def earliest(project: verify.Project, arcs: Sequence[projects.Arc], below: int) 
 
 
 def fewest(project: verify.Project, resource: int, running: list[int]) -> list[int]:
-    """Some of these, of which all ask for more of the resource than there is, and those without any one of them do not."""
+    """Some of these, of which all ask for more of the resource than there is, and those without any one of them do
+    not."""
     for i in tuple(running):
         others = [j for j in running if j != i]
         running = others if project.exceeds(resource, others) else running
@@ -58,8 +59,8 @@ def overload(project: verify.Project, starts: Sequence[int]) -> list[int]:
 
 
 def shortest_with(project: verify.Project, arcs: list[projects.Arc], below: int) -> int | None:
-    """The makespan of a shortest schedule that meets these arcs, if that is below a time. Activities that ask for too much do
-    not all run at one time, so that one of them ends before another starts."""
+    """The makespan of a shortest schedule that meets these arcs, if that is below a time. Activities that ask for too
+    much do not all run at one time, so that one of them ends before another starts."""
     starts = earliest(project, arcs, below)
     if starts is None:
         return None

@@ -1,5 +1,6 @@
-"""Makes records of searches of small projects. Which pairs are forced, which sets are split, and which leaves close a node is
-drawn by a seed. With lies some lines are not right, mostly by one: the others are as they would be below such a line."""
+"""Makes records of searches of small projects. Which pairs are forced, which sets are split, and which leaves close a
+node is drawn by a seed. With lies some lines are not right, mostly by one: the others are as they would be below such a
+line."""
 import itertools
 import random
 from collections.abc import Sequence

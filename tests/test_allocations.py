@@ -2,10 +2,10 @@
 """tests/test_allocations.py [--only WORD] [--most N]
 
 Refuses each allocation of each test in turn, alone and with the next. The tests are those of the programs
-crates/NAME/out/NAME_tests, which `rt ci` and `rt test` leave. A test has to pass, or to end with want of memory (or of a
-thread) as its error, or with an assertion that found that in place of what it wanted: any other end is an answer that
-changed. Of a test with more than N allocations (300 by default) so many are refused, spread evenly, and fewer of one that
-takes long.
+crates/NAME/out/NAME_tests, which `rt ci` and `rt test` leave. A test has to pass, or to end with want of memory (or of
+a thread) as its error, or with an assertion that found that in place of what it wanted: any other end is an answer that
+changed. Of a test with more than N allocations (300 by default) so many are refused, spread evenly, and fewer of one
+that takes long.
 
 Prints which tests are covered in part. The last line counts the runs."""
 import functools
@@ -18,8 +18,8 @@ import harness
 from harness import TOP, Verdict, Verdicts
 from refusing import Refusing, library, one, two
 
-# What a run is told to have answered where memory ran out: its status and fault and nothing on either output, or, since an
-# output of the tests is memory too, a beginning of what it writes.
+# What a run is told to have answered where memory ran out: its status and fault and nothing on either output, or, since
+# an output of the tests is memory too, a beginning of what it writes.
 TOLD = (
     rb"(?:\d+ moments, \d+ calls, gave up \d+: )?"
     rb"1 (?:(?:out of memory|cannot start a thread)\|\|\||cannot write\|(?:.*\n)*.*\|)"

@@ -4,14 +4,14 @@
 Counts the threads of searches by workers, or with --proofs of those of psprove with several jobs, and refuses them.
 
 - While `solve --workers N` runs, whatever options stand beside that, the process has one thread more than N.
-- Where the Kth thread and all after it are refused, the search ends at once with `cannot start a thread`, status 1 and empty
-  outputs. The thread that drops the nodes left is not needed.
+- Where the Kth thread and all after it are refused, the search ends at once with `cannot start a thread`, status 1 and
+  empty outputs. The thread that drops the nodes left is not needed.
 - Allocations are refused one by one. `cannot start a thread` comes for those of the starts of threads: as many for each
   of N workers as for one, one after another. For every other allocation `out of memory` comes, or the usual answer.
-- While `psprove solve --jobs N` runs, whatever options stand beside that, the process has N threads. The search of a cube has
-  one, and with `--follow` one more, without which it does not begin.
-- Where the Kth thread that psprove starts and all after it are refused, the search ends at once in the same way, and the record
-  is not there. The first job needs no new thread.
+- While `psprove solve --jobs N` runs, whatever options stand beside that, the process has N threads. The search of a
+  cube has one, and with `--follow` one more, without which it does not begin.
+- Where the Kth thread that psprove starts and all after it are refused, the search ends at once in the same
+  way, and the record is not there. The first job needs no new thread.
 - Allocations are refused one by one with one job and with two. `cannot start a thread` comes for those of the start of
   the second job's thread alone.
 

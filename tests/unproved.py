@@ -1,8 +1,8 @@
 #!/usr/bin/env python3
 """tests/unproved.py CRATE_FOLDER PROGRAM
 
-Builds the program of a crate without proving it, for tries alone: `rt try` builds it to run it once, and what it ran is kept.
-The program looks at each of its accesses, as AddressSanitizer does, so it is slow and takes much memory."""
+Builds the program of a crate without proving it, for tries alone: `rt try` builds it to run it once, and what it ran is
+kept. The program looks at each of its accesses, as AddressSanitizer does, so it is slow and takes much memory."""
 import contextlib
 import os
 import pathlib

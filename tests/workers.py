@@ -1,10 +1,11 @@
 #!/usr/bin/env python3
 """tests/workers.py PROGRAM [--runs N]
 
-Runs the program N times (1,000 by default) with two to eight workers, each time on the next of the example projects and of
-small seeded ones, and compares what it says with what one thread says without workers: both have to give the same
-verdict, and each schedule has to pass `check`. Where one of them stops at its limit, its bound has to be at most what the
-other found, and a schedule that it found has to be at least as long as a shortest one. The last line counts the runs."""
+Runs the program N times (1,000 by default) with two to eight workers, each time on the next of the example projects and
+of small seeded ones, and compares what it says with what one thread says without workers: both have to give the same
+verdict, and each schedule has to pass `check`. Where one of them stops at its limit, its bound has to be at most what
+the other found, and a schedule that it found has to be at least as long as a shortest one. The last line counts the
+runs."""
 import itertools
 from collections.abc import Iterator, Sequence
 

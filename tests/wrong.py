@@ -1,21 +1,23 @@
 #!/usr/bin/env python3
 """tests/wrong.py [--crate NAME] [--only WORD] [--jobs N] [--anew]
 
-Tries the wrong bodies that the gate doesn't try, side by side on copies of the crates: all of tests/wrong, or those of one
-crate, or those whose names have a word. Each stands in the folder of the crate that it changes, with the lines of a must-fail
-edit, whose paths are from the top of the repository, and a line that says what refuses it:
+Tries the wrong bodies that the gate doesn't try, side by side on copies of the crates: all of tests/wrong, or those of
+one crate, or those whose names have a word. Each stands in the folder of the crate that it changes, with the lines of a
+must-fail edit, whose paths are from the top of the repository, and a line that says what refuses it:
 
   proof: FUNCTION           the function doesn't meet its contract
   test: CRATE TEST          a test of a crate fails, which `rt try --test` runs without proofs
-  script: FILE WORDS..      a script of tests/ fails on the program of a line `program:`, or on psmax, built without proofs
-  nothing: FUNCTION         it is let through, since the function promises less: so this script is seen to tell what is refused
+  script: FILE WORDS..      a script of tests/ fails on the program of a line `program:`, or on psmax, built without
+                            proofs
+  nothing: FUNCTION         it is let through, since the function promises less: so this script is seen to tell what is
+                            refused
 
 Where a crate has five proofs to try or more, `rt ci` tries them as must-fail edits, over one more proof of the crate. A
 single one is tried by tests/check_one.py.
 
-Prints a line for each: what refused it, or that it was let through. A run that was stopped goes on: `rt ci` keeps what it
-tried, and build/wrong.jsonl keeps the rest while the crate and those below stay as they are. --anew forgets that file. The
-last line counts the bodies that came to what their line says."""
+Prints a line for each: what refused it, or that it was let through. A run that was stopped goes on: `rt ci` keeps what
+it tried, and build/wrong.jsonl keeps the rest while the crate and those below stay as they are. --anew forgets that
+file. The last line counts the bodies that came to what their line says."""
 import json
 import os
 import pathlib

@@ -1,9 +1,9 @@
 """planner/tests/cube_stand_in.py SECONDS solve | join | verify | --version WORD..
 
-Stands in for the psprove that searches cubes, on projects of a few activities, by trying all starts. A search takes SECONDS
-at least, and stays open after one try for each 100 conflicts. One that isn't of a cube makes no try. Its log says in JSON
-what it found, which `join` believes where the log is whole and of its cube. `verify` tries all starts again; a part of it takes
-SECONDS, too."""
+Stands in for the psprove that searches cubes, on projects of a few activities, by trying all starts. A search takes
+SECONDS at least, and stays open after one try for each 100 conflicts. One that isn't of a cube makes no try. Its log
+says in JSON what it found, which `join` believes where the log is whole and of its cube. `verify` tries all starts
+again; a part of it takes SECONDS, too."""
 from __future__ import annotations
 
 import _thread
@@ -23,8 +23,8 @@ if TYPE_CHECKING:
 
 
 class Project:
-    """A project text as psmax writes it: a line for the lags of each activity, one for its duration and demands, and one for
-    the capacities."""
+    """A project text as psmax writes it: a line for the lags of each activity, one for its duration and demands, and
+    one for the capacities."""
 
     def __init__(self, data: bytes) -> None:
         (count, resources, *_), *lines = [line.replace("[", "").replace("]", "").split() for line in data.decode().splitlines()]

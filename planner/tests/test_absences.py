@@ -26,8 +26,8 @@ class Absences(InFolder):
                 self.assertEqual(self.solved(TABLE, "resource,from,to,units\n" + away), wanted)
 
     def test_dates(self) -> None:
-        """By hand, from Monday 2 March on: away on Thursday and Friday is from 3 to 5, and a second crew comes on the 9th, so
-        a and b run one after the other until 6, and c from then on."""
+        """By hand, from Monday 2 March on: away on Thursday and Friday is from 3 to 5, and a second crew comes on the
+        9th, so a and b run one after the other until 6, and c from then on."""
         words = ("--from", "2026-03-02", "--workdays", "mon-fri")
         self.assertEqual(self.solved(TABLE, "resource,from,to\ncrane,2026-03-05,08.03.2026\n", *words), "optimal 11")
         table = "activity,days,crew (2)\na,3,1\nb,3,1\nc,3,2\n"

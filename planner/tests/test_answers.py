@@ -1,7 +1,8 @@
 """An answer says when activities start, by periods, by dates or by both. Their ends follow."""
 from .helpers import InFolder, plan
 
-# By hand, from Friday 6 March 2026 on: lifting on the 6th, 9th and 10th, bolting on the 11th and 12th, then a milestone.
+# By hand, from Friday 6 March 2026 on: lifting on the 6th, 9th and 10th, bolting on the 11th and 12th, then a
+# milestone.
 TABLE = """from,2026-03-06
 workdays,mon-fri
 activity,days,crane (1),after
@@ -62,8 +63,8 @@ class Answers(InFolder):
         self.refused(plan("check", plain, answer), 2, "'2026-03-06' is a date, and nothing says when the project begins")
 
     def test_other_periods(self) -> None:
-        """By hand: a row in hours makes a period an hour, of which a day has eight. An old plan counts days as the column does,
-        or what it says: bolting starts after three days, which are 24 hours."""
+        """By hand: a row in hours makes a period an hour, of which a day has eight. An old plan counts days as the
+        column does, or what it says: bolting starts after three days, which are 24 hours."""
         old = self.folder / "old.json"
         old.write_text(plan("solve", self.table, "--json").stdout)
         self.table.write_text(TABLE + "look,4 h,,bolt\n")

@@ -1,4 +1,5 @@
-"""Lags in calendar days, which go on over days off. Each is kept on the dates where it stands, and no schedule is shorter."""
+"""Lags in calendar days, which go on over days off. Each is kept on the dates where it stands, and no schedule is
+shorter."""
 import datetime
 import itertools
 import json
@@ -8,13 +9,14 @@ from unittest import mock
 
 from .helpers import InFolder, plan
 
-# By hand, Monday to Friday: what ends on a Friday evening has waited for three days on Monday evening, so Tuesday it is, one
-# day of work later. From Monday evening on, Tuesday to Thursday are three days of work.
+# By hand, Monday to Friday: what ends on a Friday evening has waited for three days on Monday evening, so Tuesday it
+# is, one day of work later. From Monday evening on, Tuesday to Thursday are three days of work.
 HEADS = "activity,days,after,at least,at most\n"
 WEEK = ("--from", "2026-03-02", "--workdays", "mon-fri")
 
-# The table that was read as a longer project. By hand: from Thursday 5 March on, digging ends on Friday evening, and the wall
-# begins on Tuesday: Thursday, Friday, Monday and Tuesday are 4 days. Six would be right if digging ended on another day.
+# The table that was read as a longer project. By hand: from Thursday 5 March on, digging ends on Friday evening, and
+# the wall begins on Tuesday: Thursday, Friday, Monday and Tuesday are 4 days. Six would be right if digging ended on
+# another day.
 GERMAN = "from;05.03.2026;;\nworkdays;Mo-Fr;;\nID;Task Name;Duration;Predecessors\n1;Aushub;2 d;\n2;Mauer;1 d;1FS+3 cd\n"
 ENGLISH = "from,2026-03-05,,\nworkdays,mon-fri,,\nID,Task Name,Duration,Predecessors\n1,dig,2 d,\n2,wall,1 d,1FS+3 cd\n"
 
@@ -53,7 +55,8 @@ class CalendarDays(InFolder):
                          "feasible, ends Tue 2026-03-10 (4 d)\n")
 
     def test_by_hand(self) -> None:
-        """From Friday to Tuesday; and if all is a day sooner, from Thursday to Monday, so that painting is a day sooner too."""
+        """From Friday to Tuesday; and if all is a day sooner, from Thursday to Monday, so that painting is a day sooner
+        too."""
         self.assertEqual(self.solved("pour,5,,,\nstrip,1,pour,3 cd,\n", *WEEK), "optimal 7")
         self.assertEqual(self.solved("pour,5,,,\nstrip,1,pour,3 cd,\npaint,1,strip,0,4 cd\n", *WEEK), "optimal 8")
 
@@ -69,8 +72,8 @@ class CalendarDays(InFolder):
                 self.assertEqual(self.solved(rows, *words), wanted)
 
     def test_at_most(self) -> None:
-        """By hand: at most 3 calendar days after an evening leaves a Friday one day of work, a Monday three. So two days of
-        work between pouring and stripping need no Friday, and four are too many on any day."""
+        """By hand: at most 3 calendar days after an evening leaves a Friday one day of work, a Monday three. So two
+        days of work between pouring and stripping need no Friday, and four are too many on any day."""
         for least, told in ((1, "optimal 3"), (2, "optimal 4"), (3, "optimal 5"), (4, "no schedule")):
             self.assertEqual(self.solved(f"pour,1,,,\nstrip,1,pour,{least},3 cd\n", *WEEK), told)
 
@@ -80,8 +83,9 @@ class CalendarDays(InFolder):
         self.assertEqual(self.solved("pour,5,,,\nstrip,1,pour,2,3 cd\n", *WEEK), "optimal 9")
 
     def test_holidays(self) -> None:
-        """By hand: from Thursday 2 April 2026 on, the days to the 6th are off. Of 5 calendar days from Thursday evening on only
-        the 7th is work, so with one day between stripping is on the 8th, the third day. What pours on a later day has more."""
+        """By hand: from Thursday 2 April 2026 on, the days to the 6th are off. Of 5 calendar days from Thursday evening
+        on only the 7th is work, so with one day between stripping is on the 8th, the third day. What pours on a later
+        day has more."""
         words = ("--from", "2026-04-02", "--workdays", "mon-fri", "--holidays",
                  self.file("free.txt", "2026-04-03\n2026-04-06\n"))
         self.assertEqual(self.solved("pour,1,,,\nstrip,1,pour,1,5 cd\n", *words), "optimal 3")
@@ -93,7 +97,8 @@ class CalendarDays(InFolder):
         self.assertEqual(self.solved("pour,1,,,\nstrip,4 h,pour,2 cd,\n", *WEEK, "--shift", "08:00-16:00"), "optimal 28")
 
     def test_where_clocks_change(self) -> None:
-        """By hand, around the clock from Saturday noon on: until Sunday noon it is 23 hours where clocks are put forward."""
+        """By hand, around the clock from Saturday noon on: until Sunday noon it is 23 hours where clocks are put
+        forward."""
         table = self.file("p.csv", "from,2026-03-28 11:00\nactivity,hours,after,at least\npour,1,,\nstrip,1,pour,1 cd\n")
         self.assertEqual(plan("solve", table, "--zone", "Europe/Berlin").stdout.partition("\n")[0], "optimal 25")
         self.assertEqual(plan("solve", table).stdout.partition("\n")[0], "optimal 26")
@@ -113,7 +118,8 @@ WORK = [day for day in (FIRST + datetime.timedelta(days=k) for k in range(60)) i
 
 
 class Drawn:
-    """Three or four activities, lags in calendar days between them, and two that share a crane. All starts are tried."""
+    """Three or four activities, lags in calendar days between them, and two that share a crane. All starts are
+    tried."""
 
     def __init__(self, seed: int) -> None:
         chance = random.Random(seed)
@@ -148,7 +154,8 @@ class Drawn:
 
 class AllStarts(InFolder):
     def test_all_starts(self) -> None:
-        """The least makespan of all starts is the answer, and its record proves it; where none fits there is no schedule."""
+        """The least makespan of all starts is the answer, and its record proves it; where none fits there is no
+        schedule."""
         words = ("--from", f"{FIRST}", "--workdays", "mon-fri", "--holidays", self.file("off.txt", f"{OFF}\n"))
         for seed in range(12):
             drawn, record = Drawn(seed), self.folder / "rec"
@@ -164,9 +171,9 @@ class AllStarts(InFolder):
 
 class Records(InFolder):
     def setUp(self) -> None:
-        """By hand, one machine for two jobs of 4 days from Thursday on, each with a day of work 3 calendar days after it. The
-        job that is first ends on a Tuesday, and its follower is on Saturday at the soonest, so on Monday; the other ends on
-        the next Monday, the eighth day, and its follower is on Friday, the twelfth."""
+        """By hand, one machine for two jobs of 4 days from Thursday on, each with a day of work 3 calendar days after
+        it. The job that is first ends on a Tuesday, and its follower is on Saturday at the soonest, so on Monday; the
+        other ends on the next Monday, the eighth day, and its follower is on Friday, the twelfth."""
         super().setUp()
         self.table = self.file("p.csv", "from,2026-03-05\nworkdays,mon-fri\nactivity,days,machine (1),after,at least\n"
                                "a,4,1,,\nb,4,1,,\nc,1,,a,3 cd\nd,1,,b,3 cd\n")

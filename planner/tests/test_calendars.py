@@ -1,5 +1,5 @@
-"""Calendars beside a list of all periods, which is made minute by minute and day by day: what begins and ends when, and which
-time a moment is; and that lags in calendar days are kept wherever they begin."""
+"""Calendars beside a list of all periods, which is made minute by minute and day by day: what begins and ends when, and
+which time a moment is; and that lags in calendar days are kept wherever they begin."""
 import datetime
 import random
 import unittest
@@ -41,8 +41,8 @@ class Calendars(unittest.TestCase):
                 self.assertEqual((found.calendar.begins(time), found.calendar.ended(time + 1)), (begin, end), seed)
 
     def test_moments(self) -> None:
-        """The first time that is not before a moment has before it the periods that begin before; the last one by which all has
-        ended those that end by then."""
+        """The first time that is not before a moment has before it the periods that begin before; the last one by which
+        all has ended those that end by then."""
         for seed in range(80):
             found = Chance(seed, seed % 2 == 0)
             for _ in range(10):

@@ -1,4 +1,5 @@
-"""No written file of a call is one that it reads, and no two written ones are the same, for each name of each command."""
+"""No written file of a call is one that it reads, and no two written ones are the same, for each name of each
+command."""
 import argparse
 import os
 import shutil
@@ -12,9 +13,9 @@ from psmax.planner.options import COMMANDS, parser_of
 from .helpers import CALLED, PLAN, TOP, InFolder, plan
 from .test_cube_folder import Solved
 
-FILES = {"FILE", "FOLDER", "PROJECT", "TABLE", "ANSWER", "RECORD", "PAGE", "OLD", "NEW"}  # what names of files stand for
+FILES = {"FILE", "FOLDER", "PROJECT", "TABLE", "ANSWER", "RECORD", "PAGE", "OLD", "NEW"}  # for what files stand
 TABLE = "holidays,free.txt\nabsences,away.csv\n\nactivity,days,crane (1)\na,3,1\nb,4,1\n"
-COMMON = "w.sch", "--names", "w.md", "--from", "2026-03-02", "--holidays", "free.txt"  # a project with all that it may name
+COMMON = "w.sch", "--names", "w.md", "--from", "2026-03-02", "--holidays", "free.txt"  # with all that it may name
 READ = ["w.sch", "w.md", "w.csv", "free.txt", "away.csv"]  # by the same
 START = "--start", "s.st"
 
@@ -70,7 +71,8 @@ class Names(InFolder):
         return [str(self.folder / word) if word == "." or (self.folder / word).is_file() else word for word in words]
 
     def test_what_is_read(self) -> None:
-        """By a second name, and the first of each call by its own name and a link, too. All that is there stays as it is."""
+        """By a second name, and the first of each call by its own name and a link, too. All that is there stays as it
+        is."""
         for words, reads, options in CALLS:
             for name in reads:
                 (self.folder / "soft").unlink(missing_ok=True)
@@ -176,7 +178,8 @@ class Cubes(Solved):
         self.assertEqual(ran.returncode, 0, ran.stderr)
 
     def test_a_record_that_was_cut_off(self) -> None:
-        """A join that is killed leaves nothing that hinders the next one, and the record is the old one until it is whole."""
+        """A join that is killed leaves nothing that hinders the next one, and the record is the old one until it is
+        whole."""
         before = (self.out / "record").read_bytes()
         dies = "case $1 in join) for f; do :; done; echo x > $f.part; kill -9 $$;; esac"
         bad = self.program("bad", f'{dies}\nexec {self.psprove()} "$@"')

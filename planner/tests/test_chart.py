@@ -13,8 +13,8 @@ from psmax.work_time import WorkTime
 
 from .helpers import PROJECTS, InFolder, plan
 
-# Linear RGB as somebody sees it who lacks one of two kinds of cones: Vienot, Brettel and Mollon, Digital video colourmaps for
-# checking the legibility of displays by dichromats, Color Research and Application 24 (1999).
+# Linear RGB as somebody sees it who lacks one of two kinds of cones: Vienot, Brettel and Mollon, Digital video
+# colourmaps for checking the legibility of displays by dichromats, Color Research and Application 24 (1999).
 CONES = ((17.8824, 43.5161, 4.11935), (3.45565, 27.1554, 3.86714), (0.0299566, 0.184309, 1.46709))
 LACKS = {"no red cones": ((0, 2.02344, -2.52581), (0, 1, 0), (0, 0, 1)),
          "no green cones": ((1, 0, 0), (0.494207, 0, 1.24827), (0, 0, 1))}
@@ -166,7 +166,8 @@ class Pictures(InFolder):
 
 class Tables(InFolder):
     def test_use_of_resources(self) -> None:
-        """The page has the chart's figures in tables too. By hand: a crane lifts for 3 days, is away for 2, and lifts for 4."""
+        """The page has the chart's figures in tables too. By hand: a crane lifts for 3 days, is away for 2, and lifts
+        for 4."""
         table = self.file("p.csv", "from,2026-03-02\nabsences,a.csv\nactivity,days,crane (1),after\na,3,1,\nb,4,1,a\n")
         self.file("a.csv", "resource,from,to\ncrane,2026-03-05,2026-03-06\n")
         answer, out = self.file("p.starts.csv", "name,start\na,0\nb,5\n"), self.folder / "p.html"

@@ -1,5 +1,5 @@
-"""What other programs read of what plan writes, and write for it to read: GNOME Planner, TaskJuggler, khal and the package
-icalendar. A test is left out where its program is missing."""
+"""What other programs read of what plan writes, and write for it to read: GNOME Planner, TaskJuggler, khal and the
+package icalendar. A test is left out where its program is missing."""
 import functools
 import os
 import pathlib
@@ -38,9 +38,11 @@ EVENTS = """
 import icalendar, sys
 for event in icalendar.Calendar.from_ical(open(sys.argv[1], "rb").read()).walk("VEVENT"):
     begins, ends = event["DTSTART"].dt, event.get("DTEND")
-    print(event["UID"], event["SUMMARY"], begins.isoformat(), ends.dt.isoformat() if ends else "", int(event["SEQUENCE"]) > 0)
+    until = ends.dt.isoformat() if ends else ""
+    print(event["UID"], event["SUMMARY"], begins.isoformat(), until, int(event["SEQUENCE"]) > 0)
 """
-# By hand: three days of work, two, and two more, from 09:00 on, since TaskJuggler writes the time of Berlin an hour late.
+# By hand: three days of work, two, and two more, from 09:00 on, since TaskJuggler writes the time of Berlin an hour
+# late.
 JUGGLED = """project hall "Hall" 2026-03-02-08:00 +2m {
   timezone "Europe/Berlin"
   now 2026-03-02-08:00

@@ -1,4 +1,5 @@
-"""Resources with hours of their own, and activities that may pause: exact, by all starts, and refused where they are not."""
+"""Resources with hours of their own, and activities that may pause: exact, by all starts, and refused where they are
+not."""
 import datetime
 import itertools
 import random
@@ -10,8 +11,9 @@ from psmax.crew_hours import off_times, read_hours
 
 from .helpers import InFolder, plan
 
-# By hand, around the clock from Monday 06:00 on. Opening begins with the night, at 18:00, and takes until 02:00. Thirty hours
-# of welding are 12, 12 and 6 on Tuesday to Thursday noon; three days of drying end on Sunday noon, and closing is of the night.
+# By hand, around the clock from Monday 06:00 on. Opening begins with the night, at 18:00, and takes until 02:00. Thirty
+# hours of welding are 12, 12 and 6 on Tuesday to Thursday noon; three days of drying end on Sunday noon, and closing is
+# of the night.
 TABLE = """from,2026-03-02 06:00
 ID,activity,hours,"welders (4, 06:00-18:00)",fitters (6; nights),predecessors,may pause
 1,open,8,,4,,
@@ -67,16 +69,16 @@ class ByHand(InFolder):
         self.assertEqual(ran.stdout.partition("\n")[0], f"optimal {12 * 24 + 6}", ran.stderr)
 
     def test_one_unit_more_keeps_the_hours(self) -> None:
-        """By hand: two jobs of a crew of one from 06:00 to 18:00, each of 8 hours, end on Tuesday 14:00, and side by side on
-        Monday 14:00."""
+        """By hand: two jobs of a crew of one from 06:00 to 18:00, each of 8 hours, end on Tuesday 14:00, and side by
+        side on Monday 14:00."""
         table = self.file("p.csv", 'from,2026-03-02 06:00\nactivity,hours,"crew (1, 06:00-18:00)"\na,8,1\nb,8,1\n')
         told = plan("whatif", table, "--jobs", "1").stdout
         self.assertIn("As it is: optimal, ends Tue 2026-03-03 14:00 (32 hours).\n  optimal, ends Mon 2026-03-02 14:00 (8 hours)"
                       ": one more of crew, of which there is 1\n", told)
 
     def test_absences_within_hours(self) -> None:
-        """By hand: the crew of two is away on Tuesday, and one of it on Wednesday until 12:00; 8 hours of both fit after that,
-        on Thursday."""
+        """By hand: the crew of two is away on Tuesday, and one of it on Wednesday until 12:00; 8 hours of both fit
+        after that, on Thursday."""
         self.file("away.csv", "resource,from,to,units\ncrew,2026-03-03,2026-03-03,\ncrew,2026-03-04,2026-03-04 12:00,1\n")
         table = self.file("p.csv", 'from,2026-03-03\nabsences,away.csv\nactivity,hours,"crew (2, 06:00-18:00)"\na,8,2\n')
         ran = plan("solve", table, "--jobs", "1", "--out", self.folder / "a.csv")
@@ -153,8 +155,8 @@ class Hours(unittest.TestCase):
                 read_hours(text)
 
     def test_off(self) -> None:
-        """By hand, from Friday 6 March 2026 at noon on: nights of Monday to Friday are Friday 18:00 to Saturday 06:00, which is
-        6 to 18, and Monday 18:00, 72 hours after the last."""
+        """By hand, from Friday 6 March 2026 at noon on: nights of Monday to Friday are Friday 18:00 to Saturday 06:00,
+        which is 6 to 18, and Monday 18:00, 72 hours after the last."""
         calendar = Moments(datetime.datetime(2026, 3, 6, 12), 60)
         self.assertEqual(off_times(read_hours("Mo-Fr nights"), calendar, 0, 100), [(0, 6), (18, 78), (90, 100)])
         self.assertEqual(off_times(read_hours("nights"), calendar, 20, 50), [(20, 30), (42, 50)])

@@ -29,8 +29,8 @@ SECONDS = 300.0  # that something may take on a machine that does other work too
 LOTS = PROJECTS / "vaccine-lots.sch"
 SEARCHES_CUBES = b"--under" in subprocess.run([PSPROVE, "solve", "--help"], capture_output=True).stdout
 
-# By hand: 9 periods of work on one machine. 2 starts 6 or more after 1 starts, and 4 at most 3 before 3 starts. So 1, 3, 4 and
-# 2 take 9 one after the other, and nothing can take less.
+# By hand: 9 periods of work on one machine. 2 starts 6 or more after 1 starts, and 4 at most 3 before 3 starts. So 1,
+# 3, 4 and 2 take 9 one after the other, and nothing can take less.
 FOUR = """4 1 0 0
 0 1 0
 1 1 1 2 [6]
@@ -122,7 +122,8 @@ def in_four() -> contextlib.AbstractContextManager[object]:
 
 class Here(InCubes):
     def test_split_and_solved(self) -> None:
-        """8,000 conflicts are 80 tries of the stand-in, so the project is split in 16. What is there is not searched again."""
+        """8,000 conflicts are 80 tries of the stand-in, so the project is split in 16. What is there is not searched
+        again."""
         told = self.solved("--jobs", "2")
         self.assertIn("schedule 9: cube ", told)
         self.assertEqual(len(self.rows("ended")), 17)
@@ -154,8 +155,8 @@ class Here(InCubes):
         self.assertIn("cubes: 16 refuted, 0 open, 0 running; 100.0 %", plan("status", self.out).stdout)
 
     def test_wrong_logs(self) -> None:
-        """One is cut and two are exchanged: a join names their cubes, and those that got the lemma of one. The three alone are
-        searched again, with what they were given, so that the others stand."""
+        """One is cut and two are exchanged: a join names their cubes, and those that got the lemma of one. The three
+        alone are searched again, with what they were given, so that the others stand."""
         self.solved()
         names = {row["number"]: row["cube"] for row in self.rows("given")}
         cut, one, other = (self.out / "cubes" / f"{number}.log" for number in [*names][-3:])
@@ -200,8 +201,8 @@ class Here(InCubes):
         self.solved()
 
     def test_a_table(self) -> None:
-        """By hand: the crane is away from 2 to 4, so no job of 3 or 4 fits before that, and both take until 11. It is away
-        later, too, so the end of the text is no makespan."""
+        """By hand: the crane is away from 2 to 4, so no job of 3 or 4 fits before that, and both take until 11. It is
+        away later, too, so the end of the text is no makespan."""
         self.file("away.csv", "resource,from,to,units\ncrane,2,4,1\ncrane,12,13,1\n")
         table = self.file("jobs.csv", "absences,away.csv\n\nactivity,days,crane (1)\nlift,3,1\nturn,4,1\n")
         with in_four():
@@ -323,7 +324,8 @@ class Chosen(unittest.TestCase):
         self.assertEqual(len(lemmas.chosen(["2 9 8 7 6 5 4\n"]).splitlines()), MOST_LEMMAS)
 
     def test_time(self) -> None:
-        """Told where the mean speed has been right at a quarter and at half of the time: 100 s for a third, so 200 s more."""
+        """Told where the mean speed has been right at a quarter and at half of the time: 100 s for a third, so 200 s
+        more."""
         even = [(0.0, 0.0), (25.0, 0.08), (50.0, 0.17), (100.0, 1 / 3)]
         self.assertAlmostEqual(seconds_left(even) or 0.0, 200.0)
         self.assertIsNone(seconds_left([(0.0, 0.0), (25.0, 0.08), (50.0, 0.3), (100.0, 1 / 3)]))

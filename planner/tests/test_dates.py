@@ -47,8 +47,8 @@ class Dates(InFolder):
 
     @unittest.skipUnless("Europe/Berlin" in zoneinfo.available_timezones(), "no time zones here")
     def test_a_time_zone(self) -> None:
-        """By hand: in Berlin clocks go forward at 02:00 on 29 March 2026, and back at 03:00 on 25 October: three hours from
-        midnight on end at 04:00 and at 02:00. Without a zone they end at 03:00."""
+        """By hand: in Berlin clocks go forward at 02:00 on 29 March 2026, and back at 03:00 on 25 October: three hours
+        from midnight on end at 04:00 and at 02:00. Without a zone they end at 03:00."""
         self.read("hours")
         for day, zone, end in (("2026-03-29", ("--zone", "Europe/Berlin"), "04:00"), ("2026-03-29", (), "03:00"),
                                ("2026-10-25", ("--zone", "Europe/Berlin"), "02:00"), ("2026-10-24", (), "03:00")):
@@ -116,7 +116,8 @@ class Dates(InFolder):
         self.assertIn("2026-02-27", self.ran("gantt", *words).stdout)
 
     def test_excel(self) -> None:
-        """With a mark, lines ended as a spreadsheet ends them, and the separator of the table or the one that is named."""
+        """With a mark, lines ended as a spreadsheet ends them, and the separator of the table or the one that is
+        named."""
         self.file("p.csv", TABLE.format("days").replace(",", ";"))
         self.assertEqual(plan("read", self.folder / "p.csv").returncode, 0)
         self.file("p.st", STARTS)

@@ -3,9 +3,9 @@ import json
 
 from .helpers import InFolder, plan
 
-# By hand: one machine. c, due by 1, goes first and ends at 2; then a, due by 5, at 5; then b, due by 6, at 9: 3 late. Any
-# other order is later: b before a leaves a at 9 or at 7 with c at 9, and a before c leaves c at 5, 4 late. For the makespan
-# of 9 any order will do.
+# By hand: one machine. c, due by 1, goes first and ends at 2; then a, due by 5, at 5; then b, due by 6, at 9: 3 late.
+# Any other order is later: b before a leaves a at 9 or at 7 with c at 9, and a before c leaves c at 5, 4 late. For the
+# makespan of 9 any order will do.
 TABLE = "activity,days,machine (1),due\na,3,1,5\nb,4,1,6\nc,2,1,1\nd,1,,\n"
 
 MISSED = "LATE: 2 of 3 due: 2 (b) by 3 days, due 6; 3 (c) by 1 day, due 1\n"
@@ -68,7 +68,8 @@ class Due(InFolder):
         self.assertIn("makespan 9 -> 9\nlateness 8 -> 3, 5 earlier\n", told)
 
     def test_dates(self) -> None:
-        """By hand, from Monday 2 March on, Monday to Friday: six days end on Monday the 9th, due by Friday: one day late."""
+        """By hand, from Monday 2 March on, Monday to Friday: six days end on Monday the 9th, due by Friday: one day
+        late."""
         table = self.file("q.csv", "activity,days,due\na,6,06.03.2026\n")
         words = ("--from", "2026-03-02", "--workdays", "mon-fri", *self.late)
         self.assertEqual(plan("solve", table, *words).stdout.partition("\n")[0], "optimal lateness 1")

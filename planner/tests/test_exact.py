@@ -1,5 +1,5 @@
-"""Tables by chance, with predecessors, dates and progress, beside a trial of all starts that reads the same cells by their
-meaning."""
+"""Tables by chance, with predecessors, dates and progress, beside a trial of all starts that reads the same cells by
+their meaning."""
 import itertools
 import random
 from dataclasses import dataclass, field

@@ -75,8 +75,8 @@ class Float(InFolder):
                         self.assertEqual(told == f"feasible {starts[-1]}\n", earliest <= start <= latest)
 
     def test_what_psmax_confirms(self) -> None:
-        """One check of the schedule, and two of the three moves, since a and paint may move at once. What it does not confirm
-        is told."""
+        """One check of the schedule, and two of the three moves, since a and paint may move at once. What it does not
+        confirm is told."""
         log = self.folder / "log"
         told = (f'echo "$1" >> {log}\nif [ "$1" = check ] && [ $(grep -c check {log}) -gt {{}} ]; then\n'
                 "echo lag 0 5 1; exit 4; fi\n")

@@ -6,9 +6,10 @@ import re
 from .helpers import InFolder, plan
 from .watching import Watching, done
 
-# By hand, from Monday 13 April 2026 on, Monday to Saturday, 8.5 hours a day: 12.75 hours end on Tuesday at 10:15; four more at
-# 14:15; the last two days end on Thursday at 14:15, 33.75 hours in all. 'einheben' is due on Monday evening: 8.25 hours late.
-# By hand for the days: three and two are five, from Monday to Friday; 'lift' ends on Friday, and is due on Wednesday.
+# By hand, from Monday 13 April 2026 on, Monday to Saturday, 8.5 hours a day: 12.75 hours end on Tuesday at 10:15; four
+# more at 14:15; the last two days end on Thursday at 14:15, 33.75 hours in all. 'einheben' is due on Monday evening:
+# 8.25 hours late. By hand for the days: three and two are five, from Monday to Friday; 'lift' ends on Friday, and is
+# due on Wednesday.
 GERMAN = """from;13.04.2026;;;;
 workdays;Mo-Sa;;;;
 shift;06:00-14:30;;;;

@@ -29,8 +29,8 @@ class Holidays(InFolder):
 
     @unittest.skipUnless(is_here(), "python3-holidays isn't here")
     def test_of_bavaria(self) -> None:
-        """By hand: 2 days of work from Wednesday 1 April to Easter, 4 behind it, 5, 5, 4 before May Day, 5, 3 before Ascension
-        and 1 behind it are 29, and Monday 18 May is the thirtieth."""
+        """By hand: 2 days of work from Wednesday 1 April to Easter, 4 behind it, 5, 5, 4 before May Day, 5, 3 before
+        Ascension and 1 behind it are 29, and Monday 18 May is the thirtieth."""
         told = [line[:14] for line in self.told("DE-BY", "--from", "2025-12-31")]
         self.assertEqual([day for day in told if day[:3] not in ("Sat", "Sun")][: len(BAVARIA)], [*BAVARIA])
         ran = plan("solve", self.folder / "p.csv")

@@ -29,8 +29,8 @@ class Dates(InFolder):
         self.assertEqual(self.start(",,3/5/2026,", *MONDAY, "--dates", "mdy"), 3)
 
     def test_end_by(self) -> None:
-        """By hand: two days by the 3rd or by period 2 start at 0 at the latest, and by the 2nd there is no schedule. The last
-        day is the one that `why` and `check` name."""
+        """By hand: two days by the 3rd or by period 2 start at 0 at the latest, and by the 2nd there is no schedule.
+        The last day is the one that `why` and `check` name."""
         for cell, told in (("2026-03-03", "optimal 2"), ("2", "optimal 2"), ("2026-03-08", "optimal 2"), ("2026-03-02", None),
                            ("1", None)):
             with self.subTest(cell):
@@ -80,7 +80,8 @@ class Lengths(InFolder):
         return found, ran.stdout
 
     def test_units(self) -> None:
-        """By hand: how many periods the jobs take, and what a period is. A day has eight hours of work, a week five days."""
+        """By hand: how many periods the jobs take, and what a period is. A day has eight hours of work, a week five
+        days."""
         shift = ("--from", "2026-03-02", "--workdays", "mon-fri", "--shift", "07:00-12:00,13:00-16:00")
         days = "a period is one of"
         for rows, words, wanted, said in (
@@ -115,8 +116,8 @@ class Lengths(InFolder):
         self.assertIn("a period is one of 30 minutes, which divide all lengths of", told)
 
     def test_half_days_and_hours_are_shown_in_hours(self) -> None:
-        """By hand: a day and a half from Monday 08:00 on, at eight hours a day; then two days, and four hours until Thursday
-        17:00, which is 32 hours. With an hour more the last one ends on Friday at 09:00."""
+        """By hand: a day and a half from Monday 08:00 on, at eight hours a day; then two days, and four hours until
+        Thursday 17:00, which is 32 hours. With an hour more the last one ends on Friday at 09:00."""
         heads = "from,2026-03-02\nworkdays,mon-fri\nactivity,days,after,due\n"
         text = heads + 'strip,"1,5 d",,\nmend,2 d,strip,\nclose,4 h,mend,2026-03-04\n'
         table, answer = self.file("p.csv", text), self.folder / "a.csv"
@@ -172,7 +173,8 @@ class Lengths(InFolder):
             self.refused(plan("solve", self.file("q.csv", "activity,days\na,2\n"), "--status", cell), 2, f"status {cell}: ")
 
     def test_numbers_count_what_the_column_counts(self) -> None:
-        """By hand: an hour more in a row changes no time of another row: a day is eight hours, from day 2 on, away on day 5."""
+        """By hand: an hour more in a row changes no time of another row: a day is eight hours, from day 2 on, away on
+        day 5."""
         heads = "activity,days,crane (1),not before,end by,due\n"
         away = self.file("away.csv", "resource,from,to\ncrane,5,6\n")
         for row, told in (("", "optimal 8"), ("look,1 h,,,,\n", "optimal 64")):

@@ -1,5 +1,5 @@
-"""Tables of which something was once read in silence as something else: each is now read as it is meant, or has a fault that
-names its row. German and English ones, as spreadsheets write them."""
+"""Tables of which something was once read in silence as something else: each is now read as it is meant, or has a fault
+that names its row. German and English ones, as spreadsheets write them."""
 import json
 
 from psmax.dates import read_moment
@@ -55,8 +55,9 @@ class Absences(Tables):
         self.file("away.csv", text)
 
     def test_parts_of_days(self) -> None:
-        """By hand: without the 14th the two days do not go together before the 15th, or three of the 15th to the 17th go first
-        where nothing says the order; here the order is fixed, so two from the 15th and three from the 17th end at 7."""
+        """By hand: without the 14th the two days do not go together before the 15th, or three of the 15th to the 17th
+        go first where nothing says the order; here the order is fixed, so two from the 15th and three from the 17th end
+        at 7."""
         for cells in ("14.04.2026 06:00;14.04.2026 18:00", "14.04.2026 06:00;14.04.2026", "14.04.2026;14.04.2026 18:00",
                       "14.04.2026 23:00;14.04.2026 23:30"):
             with self.subTest(cells):
@@ -64,7 +65,8 @@ class Absences(Tables):
                 self.assertEqual(self.solved(GERMAN.format("", "", ""))[0], "optimal 7")
 
     def test_parts_of_hours(self) -> None:
-        """By hand: the hours from 9 to 11 are away; two before and three after, where 12 to 13 is a break: 2 + 2 + 3."""
+        """By hand: the hours from 9 to 11 are away; two before and three after, where 12 to 13 is a break: 2 + 2 +
+        3."""
         self.away("resource,from,to\ncrane,2026-04-13 09:30,2026-04-13 10:30\n")
         first, told = self.solved(HOURS)
         self.assertEqual(first, "optimal 7")
@@ -149,7 +151,8 @@ class Dates(Tables):
 
 
 class Above(Tables):
-    """Rows above a table. By hand: from Friday 10 April 2026 on, two days end on Monday, and on Friday with Saturdays."""
+    """Rows above a table. By hand: from Friday 10 April 2026 on, two days end on Monday, and on Friday with
+    Saturdays."""
 
     def end(self, table: str) -> str:
         """The day on which the only activity ends."""
@@ -216,7 +219,8 @@ class Starts(Tables):
     """The moment at which the project starts."""
 
     def test_within_the_hours_of_work(self) -> None:
-        """By hand: half days would be periods of four hours, and from 09:00 on it is hours. A day that nobody cuts is whole."""
+        """By hand: half days would be periods of four hours, and from 09:00 on it is hours. A day that nobody cuts is
+        whole."""
         heads = "shift,08:00-12:00,13:00-17:00\n\nactivity,days\n"
         for above, days, wanted, said in (
             ("from,2026-04-13 09:00\n" + heads, "1.5", ["2026-04-13 09:00", "2026-04-14 14:00"], ""),
@@ -259,8 +263,8 @@ class Decimals(Tables):
         self.faults(HOURS, "away.csv: row 2, column B (from): '1.000 h' may be 1000, or 1", "column C (to)", faults=2)
 
     def test_what_is_no_decimal(self) -> None:
-        """Dates have points and commas of their own, and a comma stands between predecessors. By hand, in half days: b begins
-        on the eighth day, at 14, and c starts three later and takes two."""
+        """Dates have points and commas of their own, and a comma stands between predecessors. By hand, in half days: b
+        begins on the eighth day, at 14, and c starts three later and takes two."""
         table = ("from;13.04.2026\nactivity;days;id;predecessors;not before;notes\na;1,5;1;;14.04.2026;1.5\n"
                  'b;1;2;1;20.04.2026 08:00;\nc;1;3;"1FS+2,2SS+1,5 d";;\n')
         self.assertEqual(self.solved(table)[0], "optimal 19")

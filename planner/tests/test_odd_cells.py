@@ -1,5 +1,5 @@
-"""Each cell of good tables in turn with what people and spreadsheets leave in cells: it is the same plan, or a fault that names
-the row, or plan says that it has read something else."""
+"""Each cell of good tables in turn with what people and spreadsheets leave in cells: it is the same plan, or a fault
+that names the row, or plan says that it has read something else."""
 import re
 from collections.abc import Callable, Iterator
 

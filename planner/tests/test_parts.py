@@ -179,7 +179,8 @@ class Believed(InCubes):
 
 class Claims(InFolder):
     def test_by_hand(self) -> None:
-        """By the page on logs: 2 N for what is not negative, and -2 N - 1; a number may have more bytes than it needs."""
+        """By the page on logs: 2 N for what is not negative, and -2 N - 1; a number may have more bytes than it
+        needs."""
         title = b"record 3\n"
         for event, claim in ((b"\x02\x03\x12", "optimal 9"), (b"\x03\x03\x92\x00", "optimal 9"),
                              (b"\x82\x00\x07\x12", "bound 9"), (b"\x02\x07\x05", "bound -3"),

@@ -4,9 +4,9 @@ from psmax.planner.project_file import open_project
 
 from .helpers import InFolder, plan, psmax
 
-# By hand, as lags from start to start. 12FS+2: the end of 12, which takes 5, and 2 more. 14SS: its start. 9FF-1 d: 9 takes 3
-# and this one 4, so it starts at least 3 - 1 - 4 = -2 after it. 3SF: it ends at the earliest when 3 starts, so 4 before at
-# the earliest.
+# By hand, as lags from start to start. 12FS+2: the end of 12, which takes 5, and 2 more. 14SS: its start. 9FF-1 d: 9
+# takes 3 and this one 4, so it starts at least 3 - 1 - 4 = -2 after it. 3SF: it ends at the earliest when 3 starts, so
+# 4 before at the earliest.
 LINKS = (("12FS+2", "12", 7), ("12", "12", 5), ("12FS", "12", 5), ("12FS-1", "12", 4), ("12 FS + 1 d", "12", 6),
          ("14SS", "14", 0), ("14SS+3", "14", 3), ("9FF-1 d", "9", -2), ("9FF", "9", -1), ("3SF", "3", -4),
          ("3SF+6 days", "3", 2), ("12EA+2 Tage", "12", 7), ("14aa", "14", 0), ("12FS+1 w", "12", 12))
@@ -57,7 +57,8 @@ class Predecessors(InFolder):
         self.refused(plan("solve", table), 2, "row 3, column A (ID): a second activity of the number 1")
 
     def test_greatest_lags_and_shares(self) -> None:
-        """By hand: 12 takes 5, 14 takes 2, this one 4. At most 3 after the end of 12 is 8 after its start; half of 14 is 1."""
+        """By hand: 12 takes 5, 14 takes 2, this one 4. At most 3 after the end of 12 is 8 after its start; half of 14
+        is 1."""
         for cell, wanted in (("12FS<3 d", {(1, 5, 5), (5, 1, -8)}), ("12FS+1 d<=3 d", {(1, 5, 6), (5, 1, -8)}),
                              ("12SS+1<3", {(1, 5, 1), (5, 1, -3)}), ("12EE \u2264 2 Tage", {(1, 5, 1), (5, 1, -3)}),
                              ("12FS-2 d<0", {(1, 5, 3), (5, 1, -5)}), ("12SS+40%", {(1, 5, 2)}), ("12FS-20 %", {(1, 5, 4)}),
@@ -67,7 +68,8 @@ class Predecessors(InFolder):
                 self.assertEqual({*open_project(str(path)).project.arcs}, wanted)
 
     def test_shares_make_periods(self) -> None:
-        """By hand: half of 5 days is 2.5, so a period is half a day, and digging, the wait and pouring take 10 + 5 + 8."""
+        """By hand: half of 5 days is 2.5, so a period is half a day, and digging, the wait and pouring take 10 + 5 +
+        8."""
         for cell in ("12FS+50%", "12FS+2,5 d", "12SS+150%"):
             path = self.file("p.csv", f'{HEADS}12,dig,5 d,\n20,pour,4 d,"{cell}"\n')
             self.assertEqual(plan("solve", path).stdout.split()[:2], ["optimal", "23"], cell)
@@ -119,7 +121,8 @@ WBS;ID;Task Name;Duration;Predecessors
         self.assertTrue(psmax("earliest", given=(self.folder / "q.sch").read_bytes()).startswith("earliest 9\n"))
 
     def arcs(self, **cells: str) -> set[tuple[int, int, int]]:
-        """Of a group of a and b, which take 3 and 2, and one of c and d, which take 4 and 1, with these cells of a row."""
+        """Of a group of a and b, which take 3 and 2, and one of c and d, which take 4 and 1, with these cells of a
+        row."""
         rows = (("1", "G", "", "yes"), ("2", "a", "3 d", ""), ("3", "b", "2 d", ""),
                 ("4", "H", "", "yes"), ("5", "c", "4 d", ""), ("6", "d", "1 d", ""))
         heads = ("ID", "name", "duration", "summary", "predecessors", "after", "at least", "at most")
@@ -129,8 +132,8 @@ WBS;ID;Task Name;Duration;Predecessors
         return {*open_project(str(path)).project.arcs}
 
     def test_lags_of_a_group(self) -> None:
-        """By hand, as lags from start to start of a 1, b 2, c 3 and d 4: after a group is after each of its activities; a group
-        that comes after something does so with each."""
+        """By hand, as lags from start to start of a 1, b 2, c 3 and d 4: after a group is after each of its activities;
+        a group that comes after something does so with each."""
         each = {(1, 3, 3), (2, 3, 2)}
         for cells, wanted in (({"row": "c", "predecessors": "1"}, each), ({"row": "c", "after": "G"}, each),
                               ({"row": "c", "predecessors": "1FS+2 d"}, {(1, 3, 5), (2, 3, 4)}),

@@ -1,4 +1,5 @@
-"""Columns of progress: what has started stays at its real start, with the duration that follows, and the rest starts later."""
+"""Columns of progress: what has started stays at its real start, with the duration that follows, and the rest starts
+later."""
 from .helpers import InFolder, plan
 
 # By hand: one crane; in the plan lift 0 to 3, bolt 3 to 5, roof 5 to 9, cover 9 to 11.
@@ -26,7 +27,8 @@ class Progress(InFolder):
     told = ""  # by the last call of solved
 
     def test_by_hand(self) -> None:
-        """On day 6: lifting is done; bolting began on day 4 and needs one more, so it takes 3; the roof follows on 7."""
+        """On day 6: lifting is done; bolting began on day 4 and needs one more, so it takes 3; the roof follows on
+        7."""
         old = self.file("old.csv", OLD)
         first, found = self.solved((0, 0, 4, 1, "", "", "", ""), 6, "--start", old)
         self.assertEqual((first, found), ("optimal 13", {"lift": "0+3", "bolt": "4+3", "roof": "7+4", "cover": "11+2"}))
@@ -34,15 +36,16 @@ class Progress(InFolder):
         self.assertIn("old.csv, repaired", self.told)
 
     def test_done(self) -> None:
-        """Shares of the duration: of the roof a half is left on day 7, which is two days, and a third of 4 is rounded up to
-        3."""
+        """Shares of the duration: of the roof a half is left on day 7, which is two days, and a third of 4 is rounded
+        up to 3."""
         for share, roof in (("50 %", "5+4"), ("25", "5+5"), ('"33,3 %"', "5+5"), ("0", "5+6")):
             with self.subTest(share):
                 _, found = self.solved((0, "100%", 3, "100 %", 5, share, "", "0 %"), 7, heads="started,done")
                 self.assertEqual(found["roof"], roof)
 
     def test_what_ended(self) -> None:
-        """A real end counts, and lags from it; without one what is done took its time, but not beyond the status date."""
+        """A real end counts, and lags from it; without one what is done took its time, but not beyond the status
+        date."""
         heads = "started,finished"
         _, found = self.solved((0, 5, "", "", "", "", "", ""), 6, heads=heads)
         self.assertEqual((found["lift"], found["bolt"]), ("0+5", "6+2"))
@@ -50,7 +53,8 @@ class Progress(InFolder):
         self.assertEqual((found["lift"], found["bolt"]), ("0+2", "2+2"))
 
     def test_dates(self) -> None:
-        """From Monday 2 March on: on Monday the 9th, day 5, bolting has run since Friday, day 4, and needs a day more."""
+        """From Monday 2 March on: on Monday the 9th, day 5, bolting has run since Friday, day 4, and needs a day
+        more."""
         words = ("--from", "2026-03-02", "--workdays", "mon-fri")
         _, found = self.solved(("2026-03-02", 0, "06.03.2026", "1 d", "", "", "", ""), "2026-03-09", *words)
         self.assertEqual(found, {"lift": "0+3", "bolt": "4+2", "roof": "6+4", "cover": "10+2"})

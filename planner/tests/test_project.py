@@ -34,8 +34,8 @@ class Arcs(unittest.TestCase):
 
 class Parts(unittest.TestCase):
     def test_what_can_be_left_out(self) -> None:
-        """A machine; 2 starts at most 5 after 1; 2 starts with 1; the end is due on day 9. No more: that 2 follows 1, or a
-        milestone 3, is a minimum lag."""
+        """A machine; 2 starts at most 5 after 1; 2 starts with 1; the end is due on day 9. No more: that 2 follows 1,
+        or a milestone 3, is a minimum lag."""
         project = parse(b"3 1 0 0\n0 1 0\n1 1 2 2 2 [3] [0]\n2 1 2 1 1 [-5] [0]\n3 1 1 2 [0]\n4 1 1 0 [-9]\n"
                         b"0 1 0 0\n1 1 3 1\n2 1 4 1\n3 1 0 0\n4 1 0 0\n1\n")
         told = [project.arcs[part.number] for part in parts(project) if part.kind is Kind.LAG]

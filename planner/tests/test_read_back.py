@@ -2,8 +2,8 @@
 from .helpers import InFolder, plan
 from .watching import Watching, done
 
-# A German table in Excel's manner, and the same in English. By hand: 1.5 days, 4 hours and 2 days at 8.5 hours are 12.75 + 4 +
-# 17 hours.
+# A German table in Excel's manner, and the same in English. By hand: 1.5 days, 4 hours and 2 days at 8.5 hours are
+# 12.75 + 4 + 17 hours.
 GERMAN = """title;Stillstand;;;;;
 from;13.04.2026;;;;;
 workdays;Mo-Sa;;;;;
@@ -58,8 +58,8 @@ class ReadBack(InFolder):
                          "1 first and 1 last activities, by lags alone 7 days")
 
     def test_check(self) -> None:
-        """Of a table alone: settings with their rows, work of three weeks, and absences by day. By hand: 13 April 2026 is a
-        Monday, and a day has 8.5 hours."""
+        """Of a table alone: settings with their rows, work of three weeks, and absences by day. By hand: 13 April 2026
+        is a Monday, and a day has 8.5 hours."""
         ran = plan("check", self.file("t.csv", GERMAN))
         self.assertEqual((ran.returncode, ran.stderr), (0, ""))
         lines = [" ".join(line.split()) for line in ran.stdout.splitlines()]

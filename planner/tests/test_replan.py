@@ -51,8 +51,8 @@ class Replanning(InFolder):
         self.assertEqual(self.starts(self.new), {"lift beams": 0, "bolt beams": 3, "lift roof": 7, "cover roof": 11})
 
     def test_nothing_is_planned_into_the_past(self) -> None:
-        """By hand: without anything changed, on day 6 the cover may start on day 9, and nothing else moves; had the roof
-        not started by then, it could not start before."""
+        """By hand: without anything changed, on day 6 the cover may start on day 9, and nothing else moves; had the
+        roof not started by then, it could not start before."""
         ran = self.replanned(6)
         self.assertEqual((ran.returncode, ran.stdout, self.starts(self.new)), (0, "optimal 11\n", self.starts(self.old)))
         late = self.late()
@@ -172,8 +172,8 @@ class Comparing(InFolder):
         self.refused(plan("compare", path, old, self.file("none", "no schedule\n")), 2, "no schedule")
 
     def test_why(self) -> None:
-        """By hand: two jobs of 3 and 4 on one machine take 7, and one after the other with a gap 9, where 7 will do. Once 1 has
-        started at 2, they take 9."""
+        """By hand: two jobs of 3 and 4 on one machine take 7, and one after the other with a gap 9, where 7 will do.
+        Once 1 has started at 2, they take 9."""
         path = INPUTS / "two-jobs.sch"
         old, new = self.file("old", "0 0\n1 0\n2 3\n3 7\n"), self.file("new", "0 0\n1 0\n2 5\n3 9\n")
         ran = plan("compare", path, old, new, "--why")

@@ -101,7 +101,8 @@ class Report(InFolder):
         self.assertEqual(page.count('<rect class="past"'), 1)
 
     def test_what_is_drawn(self) -> None:
-        """Of the building site: a row for each of 13 activities in the chart and in the table, and its three resources."""
+        """Of the building site: a row for each of 13 activities in the chart and in the table, and its three
+        resources."""
         answer = self.file("best", psmax("solve", given=(EXAMPLES / "building-site.sch").read_bytes()))
         page = self.page(EXAMPLES / "building-site.sch", answer)
         self.assertEqual((page.count('<tr class="line"'), page.count('<tr class="activity"'), page.count('class="load"')),
@@ -110,8 +111,8 @@ class Report(InFolder):
         self.assertEqual(page.count('data-key="0">critical'), named.count("critical"))
 
     def test_on_paper(self) -> None:
-        """A4 or A3 on its side, with the title and the number of the page on each; a row of a table for each activity, below
-        times that each page has; one of something is no plural."""
+        """A4 or A3 on its side, with the title and the number of the page on each; a row of a table for each activity,
+        below times that each page has; one of something is no plural."""
         page = self.hostile()
         self.assertIn("@page { size: A4 landscape;", page)
         self.assertIn('@top-left { content: "p";', page)
@@ -124,8 +125,8 @@ class Report(InFolder):
 
     @unittest.skipUnless(browser.is_here() and PDFTOTEXT, f"{browser.MISSING}, or pdftotext")
     def test_pages(self) -> None:
-        """Each page has the title, the first has the facts, and none is empty; each activity is on one, and a full page has
-        30; the critical chain has a page of its own, and the use of resources is drawn, and not listed."""
+        """Each page has the title, the first has the facts, and none is empty; each activity is on one, and a full page
+        has 30; the critical chain has a page of its own, and the use of resources is drawn, and not listed."""
         rows = "".join(f"job {job},1,{f'job {job - 1}' if job > 1 else ''},1\n" for job in range(1, 63))
         table, answer = self.file("chain.csv", f"activity,days,after,crane (2)\n{rows}"), self.folder / "a.csv"
         self.assertEqual(plan("solve", table, "--out", answer).returncode, 0)
@@ -160,8 +161,8 @@ class Report(InFolder):
 
     @unittest.skipUnless(browser.is_here(), browser.MISSING)
     def test_in_a_browser(self) -> None:
-        """By hand: curing is tied to pouring by two lags; it and what it waits for are critical, and so in their order. The
-        time takes what the names leave, but no less than the paper gives it; the head stays; names are whole."""
+        """By hand: curing is tied to pouring by two lags; it and what it waits for are critical, and so in their order.
+        The time takes what the names leave, but no less than the paper gives it; the head stays; names are whole."""
         page = self.hostile()
         for width in (1280, 390):
             told = self.asked(page, width)

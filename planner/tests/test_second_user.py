@@ -1,4 +1,5 @@
-"""What another user of the machine may see of a plan: nothing. Two users run here, so it takes root to start these tests."""
+"""What another user of the machine may see of a plan: nothing. Two users run here, so it takes root to start these
+tests."""
 import functools
 import json
 import os
@@ -22,8 +23,8 @@ PASSWORD = "correct-horse-battery"
 TABLE = f"activity,days,crane (1)\n{NAME},3,1\nb,4,1\n"  # by hand: 7 days
 KEPT = "p.csv", "plan.csv", "plan.rec", "plan.svg", "page.html", "dates.csv"
 
-# The other user: what can be read of the processes of a user, and of the files in a folder, until standard input ends. A
-# process that has a file in `waits` goes on once it was looked at.
+# The other user: what can be read of the processes of a user, and of the files in a folder, until standard input ends.
+# A process that has a file in `waits` goes on once it was looked at.
 LOOKS = """
 import json, os, select, sys, time
 owner, folder = int(sys.argv[1]), sys.argv[2]

@@ -14,8 +14,8 @@ class Shifts(InFolder):
         return [line.split(",")[2:] for line in plan("write", path, answer, *words).stdout.splitlines()[1:]]
 
     def test_by_hand(self) -> None:
-        """The sixth hour ends at 14:00, two more on Monday and two on Tuesday; 31 from Tuesday 09:00 are 6, 8, 8, 8 and the
-        first of the Monday after."""
+        """The sixth hour ends at 14:00, two more on Monday and two on Tuesday; 31 from Tuesday 09:00 are 6, 8, 8, 8 and
+        the first of the Monday after."""
         self.assertEqual(self.rows(TABLE, *WORDS), [
             ["0", "6", "6", "2026-03-02 07:00", "2026-03-02 14:00"], ["6", "4", "10", "2026-03-02 14:00", "2026-03-03 09:00"],
             ["10", "0", "10", "2026-03-03 09:00", "2026-03-03 09:00"],

@@ -69,7 +69,8 @@ class Table(InFolder):
         self.assertIn("lift roof", plan("write", text, self.answer).stdout)
 
     def test_rows_above_the_table(self) -> None:
-        """Titles, and what holds for the project: by hand, from Friday on, the second job begins on the Wednesday after."""
+        """Titles, and what holds for the project: by hand, from Friday on, the second job begins on the Wednesday
+        after."""
         above = "title,The hall,\nfrom,2026-03-06,\nWorkdays:,Mo-Fr,\n,,\n"
         table = self.file("above.csv", above + TABLE)
         self.assertIn("2,lift roof,3,4,7,2026-03-11,2026-03-16", plan("write", table, self.answer).stdout)

@@ -7,8 +7,8 @@ from unittest import mock
 from .brute import NAMES, small
 from .helpers import INPUTS, TOP, InFolder, plan, psmax
 
-# By hand: one crane, on which a (3) and b (4) take 7, and c (2) runs alone. Each of a and b may come second, so a can start
-# at 4 and b at 3, and none is critical, though neither can move while the other stays. c can start at 5.
+# By hand: one crane, on which a (3) and b (4) take 7, and c (2) runs alone. Each of a and b may come second, so a can
+# start at 4 and b at 3, and none is critical, though neither can move while the other stays. c can start at 5.
 TABLE = "activity,days,crane (1)\na,3,1\nb,4,1\nc,2,\n"
 
 AWAY = "resource,from,to\ncrane,8,20\n"  # behind the end of these schedules
@@ -34,8 +34,8 @@ class Total(InFolder):
         self.assertEqual([line.split()[-1] for line in chart.splitlines()[3:6]], ["###....", "...****", "##-----"])
 
     def test_records(self) -> None:
-        """For each activity a schedule with the latest start, which psmax checks, and a record that a later one has none, which
-        the script in Python verifies."""
+        """For each activity a schedule with the latest start, which psmax checks, and a record that a later one has
+        none, which the script in Python verifies."""
         table, out = self.file("p.csv", TABLE), self.folder / "out"
         answer, away = self.file("a.csv", "name,start\na,0\nb,3\nc,0\n"), self.file("away.csv", AWAY)
         asked = ("float", table, "--absences", away, answer, "--total", "--out", out)
@@ -80,8 +80,8 @@ class Total(InFolder):
         self.assertNotIn("critical", ran.stdout)
 
     def test_what_has_started(self) -> None:
-        """By hand: once a has started at 0, b follows at 3 and not before, so it is critical; another schedule doesn't keep
-        that."""
+        """By hand: once a has started at 0, b follows at 3 and not before, so it is critical; another schedule doesn't
+        keep that."""
         table, answer = self.file("p.csv", TABLE), self.file("a.csv", "name,start\na,0\nb,3\nc,0\n")
         words = ("float", table, answer, "--total", "--frozen", 1, "--start")
         lines = plan(*words, answer).stdout.splitlines()

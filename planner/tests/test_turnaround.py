@@ -1,4 +1,5 @@
-"""The turnaround of planner/projects: its dates by a count of hours that is not plan's, and what has started on Friday."""
+"""The turnaround of planner/projects: its dates by a count of hours that is not plan's, and what has started on
+Friday."""
 import csv
 import datetime
 import io
@@ -83,7 +84,8 @@ class Turnaround(InFolder):
         self.assertLessEqual(int(best[2]), late)
 
     def test_on_friday(self) -> None:
-        """What has started stays at its real start, and ends when the table says so; nothing else starts before Friday."""
+        """What has started stays at its real start, and ends when the table says so; nothing else starts before
+        Friday."""
         ran = plan("solve", self.friday, "--start", self.old, "--out", self.new, "--jobs", "1")
         makespan = hours_told(ran.stdout)
         rows = self.rows(self.friday, self.new)

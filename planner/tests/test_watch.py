@@ -33,7 +33,8 @@ class Watches(InFolder):
 
 class Following(Watches):
     def test_a_change(self) -> None:
-        """By hand: the trusses come on day 20, then 2 to lift, 1 to test, 4 to sheet, 2 for gutters and 1 to strike are 30."""
+        """By hand: the trusses come on day 20, then 2 to lift, 1 to test, 4 to sheet, 2 for gutters and 1 to strike are
+        30."""
         self.file("hall-holidays.txt", (EXAMPLES / "hall-holidays.txt").read_text())
         watch = self.watching(HALL)
         self.assertEqual(watch.until(done("(27 days)"))["heads"], [])
@@ -47,9 +48,9 @@ class Following(Watches):
         self.assertEqual({kind: [name for name, _ in moves] for kind, moves in state["moved"]}["gone"], ["test the bolts"])
 
     def test_other_files(self) -> None:
-        """A day off and a day without the crane, in files that the table names, and a status date. By hand: 3 March is off, so
-        that all behind it is a day later; without the crane on the fourth day 3 + 1 + 4 are 8; and from the second day on none
-        fits before that, so that both follow it, up to 4 + 7."""
+        """A day off and a day without the crane, in files that the table names, and a status date. By hand: 3 March is
+        off, so that all behind it is a day later; without the crane on the fourth day 3 + 1 + 4 are 8; and from the
+        second day on none fits before that, so that both follow it, up to 4 + 7."""
         text = f"from,2026-03-02\nholidays,off.txt\nabsences,away.csv\nstatus,2026-03-02\n{TWO}"
         self.file("off.txt", "2026-12-25\n")
         away = self.file("away.csv", "resource,from,to\n")
@@ -110,7 +111,8 @@ class Following(Watches):
         self.assertEqual([name for name, _ in state["tables"]["rows"]], ["activity a", "activity b"])
 
     def test_other_periods(self) -> None:
-        """By hand: 12, 4 and 4 hours on one crane take 20; a start after 4 or 12 of them can't be told in days. 2 + 4 are 6."""
+        """By hand: 12, 4 and 4 hours on one crane take 20; a start after 4 or 12 of them can't be told in days. 2 + 4
+        are 6."""
         watch = self.watching("activity,days,crane (1)\na,1.5,1\nb,4 h,1\nc,0.5,1\n")
         watch.until(done("optimal 20."))
         state = watch.saved(TWO.replace("a,3", "a,2"), done("optimal 6."))
@@ -267,8 +269,8 @@ class Safe(Watches):
         self.assertEqual(watch.end()[2], "")
 
     def test_a_browser(self) -> None:
-        """Its arguments have no token, since every user may read them. They name a page that leads to the address, which the
-        user alone may read. A browser that goes on in the foreground holds up nothing."""
+        """Its arguments have no token, since every user may read them. They name a page that leads to the address,
+        which the user alone may read. A browser that goes on in the foreground holds up nothing."""
         told, begun = self.folder / "told", self.folder / "begun"
         browser = self.program("browser", f'echo "$@" > {told}; mv {told} {begun}; exec sleep 5')
         with mock.patch.dict(os.environ, {"BROWSER": browser}):

@@ -1,5 +1,5 @@
-"""Saves of a table at random moments, half of them cut in the middle of the file. The variable SAVES says how many; 1,000 take
-some minutes."""
+"""Saves of a table at random moments, half of them cut in the middle of the file. The variable SAVES says how many;
+1,000 take some minutes."""
 import os
 import pathlib
 import random

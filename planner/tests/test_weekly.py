@@ -5,8 +5,8 @@ import pathlib
 
 from .helpers import InFolder, Ran, plan
 
-# By hand, one crane, from Monday 2 March 2026 on, Monday to Friday: 3 + 2 + 4 days end on Thursday of the next week, the 12th.
-# Two days more of digging end on Monday the 16th.
+# By hand, one crane, from Monday 2 March 2026 on, Monday to Friday: 3 + 2 + 4 days end on Thursday of the next week,
+# the 12th. Two days more of digging end on Monday the 16th.
 GERMAN = "from;02.03.2026;;\nworkdays;Mo-Fr;;\nactivity;days;Kran (1);after\nAushub;3;1;\nMauer;2;1;Aushub\nDach;4;1;Mauer\n"
 ENGLISH = "from,2026-03-02,,\nworkdays,mon-fri,,\nactivity,days,crane (1),after\ndig,3,1,\nwall,2,1,dig\nroof,4,1,wall\n"
 EDITS = ((GERMAN, "Aushub;3", "Aushub;5", "Mon 16.03."), (ENGLISH, "dig,3", "dig,5", "Mon 2026-03-16"))

@@ -12,9 +12,9 @@ class WhatIf(InFolder):
                          (0, "As it is: optimal 7.\n  optimal 4: one more of resource 0, of which there is 1\n"), ran.stderr)
 
     def test_what_opens_a_schedule(self) -> None:
-        """By hand: on one machine 2 starts from 0 to 2 after 1, which takes 3. With 3 in place of 2 it follows at once, as it
-        does without the lag; if 1 need not come first, it follows 2. On two machines both start at once. The other lag,
-        1 at most 1 after 2, is not enough."""
+        """By hand: on one machine 2 starts from 0 to 2 after 1, which takes 3. With 3 in place of 2 it follows at once,
+        as it does without the lag; if 1 need not come first, it follows 2. On two machines both start at once. The
+        other lag, 1 at most 1 after 2, is not enough."""
         ran = plan("whatif", INPUTS / "two-jobs-close-lags.sch")
         first, *lines = ran.stdout.splitlines()
         self.assertEqual((ran.returncode, first), (0, "As it is: no schedule."))
@@ -50,10 +50,11 @@ class WhatIf(InFolder):
         self.assertNotIn("which is proved", ran.stdout)
 
     def test_as_planners_say_it(self) -> None:
-        """By hand: 3, 2 and 4 days on one crane from Monday on, which is away on Thursday and Friday, end on Monday 16 March.
-        With work on Saturdays 3 days come before that, and 6 from Saturday 7 on end on Friday 13. Two cranes, of which one is
-        away then, have 8 days of work in the first week, and 9 are needed. A row of one day in place of 4 ends on Wednesday.
-        Without the absence it is Thursday 12, and with one day less and Saturdays besides the eighth day of work."""
+        """By hand: 3, 2 and 4 days on one crane from Monday on, which is away on Thursday and Friday, end on Monday 16
+        March. With work on Saturdays 3 days come before that, and 6 from Saturday 7 on end on Friday 13. Two cranes, of
+        which one is away then, have 8 days of work in the first week, and 9 are needed. A row of one day in place of 4
+        ends on Wednesday. Without the absence it is Thursday 12, and with one day less and Saturdays besides the eighth
+        day of work."""
         self.file("away.csv", "resource,from,to,units\ncrane,2026-03-05,2026-03-06,\n")
         table = self.file("p.csv", "from,2026-03-02\nworkdays,Mo-Fr\nabsences,away.csv\nID,activity,days,crane (1)\n"
                           "7,a,3,1\n8,b,2,1\n9,c,4,1\n")

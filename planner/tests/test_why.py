@@ -58,9 +58,9 @@ class Why(InFolder):
         self.told(EXAMPLES / "building-site.sch", "There is a schedule: psprove has found one of 36.")
 
     def test_dates(self) -> None:
-        """By hand, from Monday 2 March on, Monday to Friday: trusses come on the 6th, lifting takes two days, and the roof is
-        due by the 9th: it ends on the 10th at the soonest, a day too late. The circle begins at the start, and ends with its
-        limit."""
+        """By hand, from Monday 2 March on, Monday to Friday: trusses come on the 6th, lifting takes two days, and the
+        roof is due by the 9th: it ends on the 10th at the soonest, a day too late. The circle begins at the start, and
+        ends with its limit."""
         table = self.file("p.csv", "activity,days,after,not before,end by\ntrusses,0,,2026-03-06,\nlift,2,trusses,,\n"
                           "roof,1,lift,,2026-03-09\n")
         ran = plan("why", table, "--from", "2026-03-02", "--workdays", "mon-fri")
@@ -78,8 +78,9 @@ Without this lag there is a schedule of 7: 3 (roof) ends by 2026-03-09.
 """)
 
     def test_advice_was_tried(self) -> None:
-        """By hand: x takes 3 days and y 2, which is one more than the 4 that y has; but z has the crane from day 4 to day 8, so
-        that y ends on day 10. Six days more are enough, and one is not. A lag of the table is never shortened."""
+        """By hand: x takes 3 days and y 2, which is one more than the 4 that y has; but z has the crane from day 4 to
+        day 8, so that y ends on day 10. Six days more are enough, and one is not. A lag of the table is never
+        shortened."""
         for by, day in (("end by", "4"), ("end by", "05.03.2026")):
             table = self.file("p.csv", f"from;02.03.2026;;;;;\nactivity;days;crane (1);after;at least;{by};not before\n"
                               f"x;3;;;;;\ny;2;1;x;;{day};\nz;4;1;;;09.03.2026;4\n")
@@ -127,7 +128,8 @@ Without this lag there is a schedule of 7: 3 (roof) ends by 2026-03-09.
         self.refused(plan("why", INPUTS / "two-jobs-close-lags.sch", "--out", out), 2, "is no empty folder")
 
     def test_each_is_needed(self) -> None:
-        """The project that is left has the deadline and what is told, and psmax finds the schedule without each feasible."""
+        """The project that is left has the deadline and what is told, and psmax finds the schedule without each
+        feasible."""
         out = self.folder / "out"
         ran = plan("why", PROJECTS / "vaccine-lots.sch", "--within", "104", "--out", out)
         self.assertEqual(ran.returncode, 0, ran.stderr)

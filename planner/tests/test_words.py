@@ -64,7 +64,8 @@ class NotKnownYet(InFolder):
         self.assertIn('<i class="unknown"></i>total float not known yet', page)
 
     def test_once_they_are(self) -> None:
-        """By hand: of lifting and setting the second one is critical; the first may be second, and waiting may end with all."""
+        """By hand: of lifting and setting the second one is critical; the first may be second, and waiting may end with
+        all."""
         table, answer, page = self.file("t.csv", ENGLISH), self.folder / "a.csv", self.folder / "a.html"
         plan("solve", table, "--out", answer, "--jobs", "1")
         self.assertEqual(plan("report", table, answer, "--out", page, "--jobs", "1").returncode, 0)

@@ -60,8 +60,8 @@ class Formats(InFolder):
                         self.assertEqual(again.groups, project.groups)
 
     def test_holidays(self) -> None:
-        """As dates or as texts, they are the same days off. By hand, from Thursday 5 March 2026 on: with Friday off three days
-        end on Tuesday."""
+        """As dates or as texts, they are the same days off. By hand, from Thursday 5 March 2026 on: with Friday off
+        three days end on Tuesday."""
         days: list[Any] = [["2026-03-06"], {"06.03.2026"}, [datetime.date(2026, 3, 6)], [datetime.datetime(2026, 3, 6, 8)]]
         for holidays in days:
             with self.subTest(holidays):
@@ -94,8 +94,8 @@ class Formats(InFolder):
             self.assertEqual(project.solve(seconds=10, jobs=1).makespan, made.shortest(project))
 
     def test_damaged_texts(self) -> None:
-        """200 of each format, found by what they hold or read as what they were: each is read and can be written again, or has
-        a fault in words."""
+        """200 of each format, found by what they hold or read as what they were: each is read and can be written again,
+        or has a fault in words."""
         for name, make in MAKERS.items():
             for seed in range(200):
                 text = damaged(make(seed).text(name), random.Random(f"{name} {seed}"))

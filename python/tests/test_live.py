@@ -35,7 +35,8 @@ class Live(InFolder):
                 self.assertEqual(told.makespan, told.schedule.makespan)
 
     def test_what_is_told(self) -> None:
-        """Feasible starts and a bound; each time one of both is better, and neither is worse. The last is the answer."""
+        """Feasible starts and a bound; each time one of both is better, and neither is worse. The last is the
+        answer."""
         project = psmax.Project.read(self.hard())
         answer = project.solve(2, 2, on_progress=self.heard.append)
         self.feasible(project)
@@ -46,8 +47,8 @@ class Live(InFolder):
         self.assertTrue(len(self.heard) > 2 and all(told.is_proved for told in self.heard))
 
     def test_lateness_and_absences(self) -> None:
-        """By hand: the crane is away from 2 until 6, so that lifts of 3 and 4 begin then, and the second ends at 13. Both are
-        due at 6."""
+        """By hand: the crane is away from 2 until 6, so that lifts of 3 and 4 begin then, and the second ends at 13.
+        Both are due at 6."""
         made = psmax.Project()
         crane = made.resource("crane", 1)
         for days in (3, 4):

@@ -172,8 +172,8 @@ class Meant(unittest.TestCase):
             1, f"{week()}<WorkWeeks><WorkWeek>{week(NIGHT)}</WorkWeek></WorkWeeks>"))
 
     def test_hours_of_a_resource(self) -> None:
-        """By hand, in two hours, in a project that works around the clock from 08:00 on: nights are one shift, of the day on
-        which each begins. Days with different hours, other days off, and what fits into no shift are refused."""
+        """By hand, in two hours, in a project that works around the clock from 08:00 on: nights are one shift, of the
+        day on which each begins. Days with different hours, other days off, and what fits into no shift are refused."""
         whole = "<WorkingTime><FromTime>00:00:00</FromTime><ToTime>00:00:00</ToTime></WorkingTime>"
         early, late = (f"<WorkingTime><FromTime>{begins}:00:00</FromTime><ToTime>{ends}:00:00</ToTime></WorkingTime>"
                        for begins, ends in (("00", "06"), ("18", "00")))
@@ -192,8 +192,8 @@ class Meant(unittest.TestCase):
             self.refused((told,), task(1, "weld", 1, length), crew, all_days + calendar(2, week_of_crew, 1), need)
 
     def test_the_field_of_maximum_lags(self) -> None:
-        """By the name that it has, whatever its number is. By hand, in hours: at most nine after the end, and from the start of
-        the project."""
+        """By the name that it has, whatever its number is. By hand, in hours: at most nine after the end, and from the
+        start of the project."""
         def pour(text: str) -> str:
             return task(2, "pour", 1, 3, f"<ExtendedAttribute><FieldID>188743731</FieldID><Value>{text}</Value>"
                                          "</ExtendedAttribute>")

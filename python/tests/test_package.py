@@ -46,7 +46,8 @@ class Installed(InFolder):
         self.assertEqual(ran.returncode, 0, ran.stderr)
 
     def test_make_install(self) -> None:
-        """The programs, plan, manual pages, documents and checkers, which show no traceback; and all of it gone again."""
+        """The programs, plan, manual pages, documents and checkers, which show no traceback; and all of it gone
+        again."""
         at_hand = [f"AT_HAND={pathlib.Path(PSMAX).parent}"] if "PSMAX" in os.environ else []
         self.made("install", f"PREFIX={self.folder}", *at_hand)
         share, site = self.folder / "share", EXAMPLES / "building-site.sch"
@@ -74,8 +75,8 @@ class Installed(InFolder):
         self.assertEqual({path.name for path in self.folder.iterdir()}, before - {"bin", "share"})
 
     def test_odd_places(self) -> None:
-        """Names with blanks and signs, a umask that lets nobody in, and a root. All may read what is installed. Nothing is
-        written elsewhere, and nothing of it is left."""
+        """Names with blanks and signs, a umask that lets nobody in, and a root. All may read what is installed. Nothing
+        is written elsewhere, and nothing of it is left."""
         before, sources = os.umask(0o077), sorted(path.name for path in TOP.iterdir())
         self.addCleanup(os.umask, before)
         for root, prefix in (("", f"{self.folder}/a pre 'fix$HOME;x"), (f"{self.folder}/the \"root\"", "/usr/lo cal")):

@@ -118,8 +118,9 @@ class Read(unittest.TestCase):
         self.assertEqual([(one.begins, one.ends, one.units) for one in hall.absences], [(0, 6, 2)])
 
     def test_hours_of_a_resource(self) -> None:
-        """The crew works on other days than the activities, and all that need it depend on it. By hand, in half days: Monday to
-        Wednesday is there until 6, and again from 8 on, since Friday of the first week is off; mornings alone are too short."""
+        """The crew works on other days than the activities, and all that need it depend on it. By hand, in half days:
+        Monday to Wednesday is there until 6, and again from 8 on, since Friday of the first week is off; mornings alone
+        are too short."""
         text = put("RSRC", "crew", "clndr_id", "11")
         for name in ("A1010", "A1020", "A1040", "A1050", "A1060"):
             text = put("TASK", name, "task_type", "TT_Rsrc", text)

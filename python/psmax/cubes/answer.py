@@ -1,4 +1,5 @@
-"""What a worker answers, looked at before anything is done with it: it names no files, and says nothing of another form."""
+"""What a worker answers, looked at before anything is done with it: it names no files, and says nothing of another
+form."""
 import hashlib
 import pathlib
 import re
@@ -20,7 +21,8 @@ class Strange(Exception):
 
 
 def checked(row: object, folder: pathlib.Path, number: int, ends: int) -> Row:
-    """The answer with its files as bytes, or none where they lie in the folder. Starts are those of activities 0 to `ends`."""
+    """The answer with its files as bytes, or none where they lie in the folder. Starts are those of activities 0 to
+    `ends`."""
     try:
         assert isinstance(row, dict)
         found: Row = {"cube": row["cube"], "starts": row["starts"], "pieces": [*map(piece, row["pieces"])],

@@ -1,4 +1,5 @@
-"""What a record of lemmas claims: its title, its last event and its end, which the driver of a check in parts reads itself."""
+"""What a record of lemmas claims: its title, its last event and its end, which the driver of a check in parts reads
+itself."""
 import mmap
 import os
 
@@ -32,7 +33,8 @@ def last_event(data: mmap.mmap, place: int) -> tuple[int, int]:
 
 
 def number(data: bytes, place: int = 0) -> tuple[int, int]:
-    """The number that begins the bytes, which stand at a place, and the place behind it; far off where they have none."""
+    """The number that begins the bytes, which stand at a place, and the place behind it; far off where they have
+    none."""
     found = 0
     for count, byte in enumerate(data[:MOST_BYTES]):
         found |= (byte & 127) << 7 * count

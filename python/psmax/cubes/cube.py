@@ -1,5 +1,6 @@
-"""The search of one cube, as a worker runs it: a psprove that follows what is known elsewhere. Dask sends this module by value,
-so it imports nothing of the package. A worker needs Dask, and the psprove that $PSPROVE names or its PATH has."""
+"""The search of one cube, as a worker runs it: a psprove that follows what is known elsewhere. Dask sends this module
+by value, so it imports nothing of the package. A worker needs Dask, and the psprove that $PSPROVE names or its PATH
+has."""
 import contextlib
 import hashlib
 import json
@@ -82,8 +83,8 @@ def words(task: Row, here: pathlib.Path) -> list[str]:
 
 
 def followed(line: list[str], here: pathlib.Path, below: int | None, ask: Ask, every: float) -> tuple[int, float]:
-    """The exit status of the search, and its seconds of a processor. It is told of schedules shorter than it knows. It ends
-    when its standard input does, so it doesn't outlive who started it."""
+    """The exit status of the search, and its seconds of a processor. It is told of schedules shorter than it knows. It
+    ends when its standard input does, so it doesn't outlive who started it."""
     with (here / "out").open("wb") as out, (here / "err").open("wb") as err, subprocess.Popen(
             line, stdin=subprocess.PIPE, stdout=out, stderr=err, bufsize=0, start_new_session=True) as child:
         asked = -every
@@ -114,8 +115,8 @@ def say(child: subprocess.Popen[bytes], line: str) -> None:
 
 
 def sent(task: Row, here: pathlib.Path) -> Row:
-    """The files that were made, by their digests. Where this machine sees the driver's folder they are left there, under names
-    that the number of the search and their digests make, and otherwise they come with the answer."""
+    """The files that were made, by their digests. Where this machine sees the driver's folder they are left there,
+    under names that the number of the search and their digests make, and otherwise they come with the answer."""
     incoming, found = pathlib.Path(task["folder"], "incoming"), {}
     sees = is_seen(task)
     for file in MADE:

@@ -1,5 +1,5 @@
-"""The driver of a tree. It begins with one search for a good schedule. Then it gives cubes to machines, each with the lemmas
-of those that ended before, splits what stays open, and tells all searches of a shorter schedule."""
+"""The driver of a tree. It begins with one search for a good schedule. Then it gives cubes to machines, each with the
+lemmas of those that ended before, splits what stays open, and tells all searches of a shorter schedule."""
 import resource
 import zlib
 from collections import Counter
@@ -19,7 +19,7 @@ from .tree import WHOLE, Cube, Driven
 
 BEGIN = 10_000  # conflicts of the first search
 FIRST, CUBES = 8_000, 16  # conflicts of the whole project, before it is split; cubes of that split
-CONFLICTS, PIECES, GROWTH = 4_000, 4, 1.5  # of later searches and splits; with each split a cube may take so much longer
+CONFLICTS, PIECES, GROWTH = 4_000, 4, 1.5  # of later searches and splits; each split may take so much longer
 MOST_CONFLICTS = 1_000_000_000
 MOST_LEMMAS = 4_000  # that a cube gets
 TRIES = 3  # of a cube whose search fails, or whose log is wrong

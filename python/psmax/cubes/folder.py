@@ -1,5 +1,5 @@
-"""The folder of a tree of cubes: its mark, what may lie there, and how its files are opened. Nothing in it is a link, so no
-file outside of it is read, written or deleted."""
+"""The folder of a tree of cubes: its mark, what may lie there, and how its files are opened. Nothing in it is a link,
+so no file outside of it is read, written or deleted."""
 import fcntl
 import hashlib
 import os

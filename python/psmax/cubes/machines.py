@@ -1,5 +1,5 @@
-"""Where cubes are searched, and parts of a record checked: by processes of this machine, or by the workers of a Dask cluster,
-whoever started it. Both take tasks by `submit`, and give futures."""
+"""Where cubes are searched, and parts of a record checked: by processes of this machine, or by the workers of a Dask
+cluster, whoever started it. Both take tasks by `submit`, and give futures."""
 import logging
 import math
 import pathlib
@@ -155,7 +155,7 @@ class Cluster(Machines):
             raise Failed(MISSING.format(fault)) from None
         for name in ("distributed.client", "asyncio"):  # what they tell, this module says in a line
             logging.getLogger(name).setLevel(logging.CRITICAL)
-        warnings.filterwarnings("ignore", "Large object", module="distributed")  # of a record that a machine doesn't see
+        warnings.filterwarnings("ignore", "Large object", module="distributed")  # of a record that isn't seen there
         for module in (cube, part):
             cloudpickle.register_pickle_by_value(module)
         self.variable = distributed.Variable

@@ -1,6 +1,6 @@
-"""A record of psprove that is checked in parts at once, each of which reads all of it and checks a share of its lemmas. All
-parts are right and say the same: then the record is right. Of workers of a cluster that is believed, but for parts that are
-drawn at random and judged here too, and for faults."""
+"""A record of psprove that is checked in parts at once, each of which reads all of it and checks a share of its lemmas.
+All parts are right and say the same: then the record is right. Of workers of a cluster that is believed, but for parts
+that are drawn at random and judged here too, and for faults."""
 import hashlib
 import os
 import re
@@ -52,7 +52,8 @@ class Parts:
         self.sent: set[tuple[Machines, int]] = set()  # parts whose machine got the record with the task
 
     def check(self) -> Judged:
-        """What `psprove verify` says of the record. One that has no title, no claim or no end is judged here in one piece."""
+        """What `psprove verify` says of the record. One that has no title, no claim or no end is judged here in one
+        piece."""
         try:
             if self.claim is None and self.here is not None:
                 self.machines = self.here
@@ -62,7 +63,7 @@ class Parts:
             for number in range(1, self.count + 1):
                 self.give(self.machines, number)
             self.draw()
-            while len(self.rows) < self.count or self.drawn - self.own.keys():  # also where no machine is left for a while
+            while len(self.rows) < self.count or self.drawn - self.own.keys():  # also while no machine is left
                 self.wait_for_machines()
                 self.look(self.machines)
                 if self.here is not None and self.here is not self.machines:
@@ -137,8 +138,8 @@ class Parts:
         return found
 
     def verdict(self) -> Judged:
-        """Each event is checked by some part as by a check of all, and no part finds a fault before the first one. A fault is
-        believed once it was found here."""
+        """Each event is checked by some part as by a check of all, and no part finds a fault before the first one. A
+        fault is believed once it was found here."""
         for number, own in sorted(self.own.items()):
             row = self.rows[number]
             if (row["is_right"], row["says"]) != (own["is_right"], own["says"]):

@@ -1,9 +1,10 @@
-"""The tree of the cubes of a project, as it stands in a folder. One driver writes it; nobody else has to agree on anything.
+"""The tree of the cubes of a project, as it stands in a folder. One driver writes it; nobody else has to agree on
+anything.
 
 mark          the version of the folder, and the SHA-256 of the project
 project.sch   the project
-rows          a line of JSON for each step: the first search has ended, a driver has begun, a cube is given out, its search
-              has ended or is lost, its log is damaged, or its logs are put aside. Each has a checksum
+rows          a line of JSON for each step: the first search has ended, a driver has begun, a cube is given out, its
+              search has ended or is lost, its log is damaged, or its logs are put aside. Each has a checksum
 cubes/N.log   what search N proves; N.import has the lemmas that it got, and N.lemmas its own. Rows have their SHA-256
 incoming      files on their way there, by the numbers of their searches and their SHA-256
 token         the run's: a worker that reads it sees the folder, and leaves its files there
@@ -35,7 +36,8 @@ class Cube:
 
 
 class Tree:
-    """Cubes by their names, words of 0 and 1. What each row says is taken in one way, now or after a driver was killed."""
+    """Cubes by their names, words of 0 and 1. What each row says is taken in one way, now or after a driver was
+    killed."""
 
     def __init__(self, folder: pathlib.Path) -> None:
         self.folder = folder
@@ -46,7 +48,7 @@ class Tree:
         self.digests: dict[int, dict[str, str]] = {}  # of the files of each search, by their kinds
         self.begun: dict[int, list[int] | None] = {}  # with which schedule each search began
         self.refuted: set[str] = set()
-        self.logs: dict[int, str] = {}  # the searches whose logs are joined, in the order of their ends, with their cubes
+        self.logs: dict[int, str] = {}  # searches whose logs are joined, in the order of their ends, with their cubes
         self.starts: tuple[int, ...] | None = None  # of the shortest schedule, by the numbers of the text
         self.offset = 0  # of what is minimized: it is so much less than the end of the text
         self.number = 0
@@ -224,8 +226,8 @@ class Driven(Tree):
         self.take(found)
 
     def look(self) -> Iterator[str]:
-        """Finds logs that are no longer what they were, with a line for each file. Their searches are made again with what
-        they were given, so that others which got their lemmas stand. Without that the cube is opened again."""
+        """Finds logs that are no longer what they were, with a line for each file. Their searches are made again with
+        what they were given, so that others which got their lemmas stand. Without that the cube is opened again."""
         for number, name in [*self.logs.items()]:
             bad = [kind for kind in ("import", *MADE) if self.is_damaged(number, kind)]
             if "import" in bad:

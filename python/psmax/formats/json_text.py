@@ -12,7 +12,8 @@ from ..work_time import WorkTime, must_be_period
 SUFFIX = ".json"
 KIND = "psmax-project 1"  # what the key `format` says
 ENDS = ("start", "end")
-KEYS: dict[str, tuple[set[str], set[str]]] = {  # of each kind of object: those that it must have, and those that it may have
+# Of each kind of object those that it must have, and those that it may have.
+KEYS: dict[str, tuple[set[str], set[str]]] = {
     "the project": ({"format", "activities"}, {"name", "resources", "lags", "absences", "work time", "status"}),
     "a resource": ({"name", "capacity"}, {"hours"}),
     "an activity": ({"name", "duration"}, {"demands", "due"}),

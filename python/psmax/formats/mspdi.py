@@ -87,8 +87,8 @@ class Document(Gathering):
 
     @cached_property
     def minutes(self) -> int:
-        """How long a period is: the longest that divides all lengths, the hours of work, also of resources, and what lies
-        before tasks that are scheduled by hand and before the start of the project."""
+        """How long a period is: the longest that divides all lengths, the hours of work, also of resources, and what
+        lies before tasks that are scheduled by hand and before the start of the project."""
         parts, begun = read_shift(self.hours[1]), 60 * self.first.hour + self.first.minute
         marks = {begun, *(mark for hours in self.crews.values() for mark in hours.marks())}
         lengths = [length for begins, ends in parts
@@ -193,8 +193,8 @@ class Document(Gathering):
         return minutes
 
     def link(self, uid: str, link: Element) -> list[Link]:
-        """A link as those between tasks with work. One from the end of a summary is one from the end of each task below it,
-        and one to its start is one to the start of each. None where an end of it is not active."""
+        """A link as those between tasks with work. One from the end of a summary is one from the end of each task below
+        it, and one to its start is one to the start of each. None where an end of it is not active."""
         before, kind = text_of(link, "PredecessorUID") or "", text_of(link, "Type") or "1"
         if before in self.outline.passed_over:
             return []

@@ -79,7 +79,8 @@ def hours(project: Element) -> tuple[str, str]:
 
 
 def spans(project: Element, calendar: Element | None) -> dict[int, list[str]]:
-    """The hours of each day of the week that has work. A calendar says what is not as in the one that it is based on."""
+    """The hours of each day of the week that has work. A calendar says what is not as in the one that it is based
+    on."""
     found: dict[int, list[str]] = {}
     for one in reversed(chain(project, calendar)):
         if one.find("WorkWeeks/WorkWeek/WeekDays/WeekDay") is not None:

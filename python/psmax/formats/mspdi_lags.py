@@ -1,5 +1,5 @@
-"""The lags of a project as MSPDI has them: links, constraints, and a field of the task for what these can't say, such as
-maximum lags and links that would close a circle. A note says the same to people."""
+"""The lags of a project as MSPDI has them: links, constraints, and a field of the task for what these can't say, such
+as maximum lags and links that would close a circle. A note says the same to people."""
 import re
 from collections.abc import Iterable
 from dataclasses import dataclass, field

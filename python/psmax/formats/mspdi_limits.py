@@ -1,4 +1,5 @@
-"""The dates of an MSPDI file: what has started, what is scheduled by hand, constraints and deadlines, also of summaries."""
+"""The dates of an MSPDI file: what has started, what is scheduled by hand, constraints and deadlines, also of
+summaries."""
 import datetime
 from collections.abc import Mapping
 from dataclasses import dataclass, field
@@ -74,8 +75,8 @@ class Limits:
         return 0 if at is None else self.document.calendar.from_on(at)
 
     def limit(self, uid: str, task: Element) -> None:
-        """What has started or is scheduled by hand stays where it is. All else keeps its constraint and starts from the status
-        date on."""
+        """What has started or is scheduled by hand stays where it is. All else keeps its constraint and starts from the
+        status date on."""
         document, activity = self.document, self.own[uid]
         begun = document.moment(task, "ActualStart", document.called(uid))
         if begun is None and (text_of(task, "PercentComplete") or "0") != "0":
@@ -110,8 +111,8 @@ class Limits:
             self.project.lag(self.project.start, point, at_least=least, at_most=most)
 
     def limit_summary(self, uid: str, below: list[str]) -> None:
-        """A summary starts with the first task below it and ends with the last one: what none of these may go beyond each of
-        them keeps, and what one of them has to reach is known where it stays where it is."""
+        """A summary starts with the first task below it and ends with the last one: what none of these may go beyond
+        each of them keeps, and what one of them has to reach is known where it stays where it is."""
         found = self.constraint(uid, self.document.outline.all[uid])
         if found is None or not below:
             return

@@ -22,7 +22,8 @@ if TYPE_CHECKING:
 PERCENT = 100
 LAST_YEAR = 2049  # what is available until its end is available for ever
 MINUTE = datetime.timedelta(minutes=1)
-Stretch = tuple[datetime.datetime | None, datetime.datetime | None, Fraction]  # from when until when there are so many units
+# From when until when there are so many units.
+Stretch = tuple[datetime.datetime | None, datetime.datetime | None, Fraction]
 Away = tuple[int, int | None, Fraction]  # from which time until which how many units lack
 
 
@@ -66,7 +67,8 @@ class Needs:
         return found or [(None, None, units_of(resource, "MaxUnits", called))]
 
     def assigned(self, resources: set[str]) -> list[tuple[str, str, Fraction]]:
-        """The task, the resource and the units of each assignment of a resource that does work to a task that is active."""
+        """The task, the resource and the units of each assignment of a resource that does work to a task that is
+        active."""
         document, found = self.document, []
         for one in document.root.findall("Assignments/Assignment"):
             task, resource = (text_of(one, name) or "" for name in ("TaskUID", "ResourceUID"))
@@ -117,7 +119,8 @@ def units_of(one: Element, name: str, called: str) -> Fraction:
 
 
 def absences(stretches: Iterable[Stretch], most: Fraction, calendar: Calendar) -> list[Away]:
-    """When how many units lack of the most that there ever are. What lacks for a part of a period lacks for all of it."""
+    """When how many units lack of the most that there ever are. What lacks for a part of a period lacks for all of
+    it."""
     moments = sorted({moment for begins, ends, _ in stretches for moment in (begins, ends) if moment is not None})
     lacks: list[Away] = []
     for begins, ends in zip([None, *moments], [*moments, None]):

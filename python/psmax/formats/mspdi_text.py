@@ -179,8 +179,8 @@ def add_availability(resource: Element, one: Resource, absences: Sequence[Absenc
 
 
 def replanned(text: str, schedule: Schedule) -> str:
-    """The same file with the starts of a schedule of it: its tasks start then, by a delay that levelling has. All else stays.
-    A summary goes from the first start below it to the last end."""
+    """The same file with the starts of a schedule of it: its tasks start then, by a delay that levelling has. All else
+    stays. A summary goes from the first start below it to the last end."""
     root = parsed(text)
     document = Document(root)
     numbers, starts = schedule.project.numbers(), schedule.starts

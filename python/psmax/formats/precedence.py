@@ -1,5 +1,5 @@
-"""Projects whose lags are precedences: an activity starts no sooner than another one ends (RCPSP). The texts of such projects
-number their activities from 1 on, with the start first and the end last."""
+"""Projects whose lags are precedences: an activity starts no sooner than another one ends (RCPSP). The texts of such
+projects number their activities from 1 on, with the start first and the end last."""
 from collections.abc import Sequence
 from dataclasses import dataclass
 

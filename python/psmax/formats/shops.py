@@ -74,8 +74,8 @@ def machine_of(numbers: Numbers, activity: int) -> int:
 
 
 def open_shop_of(project: Parts) -> Shop:
-    """The project as an open shop, whose first resources are the machines and whose others are the jobs. Each job has an
-    operation on each machine."""
+    """The project as an open shop, whose first resources are the machines and whose others are the jobs. Each job has
+    an operation on each machine."""
     numbers = plain(project, "an open shop")
     resources = len(numbers.capacities)
     for machines in range(1, resources):
@@ -93,7 +93,8 @@ def open_shop_of(project: Parts) -> Shop:
 
 
 def pairs(numbers: Numbers, machines: int) -> list[tuple[int, int]]:
-    """The machine and the job of each activity, where the first resources are the machines; empty where one has other needs."""
+    """The machine and the job of each activity, where the first resources are the machines; empty where one has other
+    needs."""
     found = []
     for row in numbers.demands[1:-1]:
         needs = [k for k, units in enumerate(row) if units]

@@ -91,8 +91,8 @@ def named_values(file: str, sheet: Sheet, faults: Faults) -> dict[str, tuple[int
 
 
 def setting_in(file: str, number: int, place: int, row: list[str]) -> tuple[str, str]:
-    """The setting of a row and its value: what stands behind it in the same cell or in those behind, since a comma in it may
-    have split it."""
+    """The setting of a row and its value: what stands behind it in the same cell or in those behind, since a comma in
+    it may have split it."""
     values = [text for text in row[place + 1 :] if text]
     name, text = row[place].rstrip(" :="), ",".join(values)
     parted = PARTED.fullmatch(row[place])

@@ -20,8 +20,9 @@ HEAD = {word: head for head, words in (  # in English, then in German
 
 
 def read_absences(path: str, project: Project, names: Names, terms: Terms) -> list[Absence]:
-    """By dates, of which the last is the last day away, or by the numbers of periods, as a resource's use is written. No first
-    one is from the start on, no last one for ever, and no units are all. A period of which a part is away is away."""
+    """By dates, of which the last is the last day away, or by the numbers of periods, as a resource's use is written.
+    No first one is from the start on, no last one for ever, and no units are all. A period of which a part is away is
+    away."""
     sheet, faults, found = read_sheet(path, read_text(path), is_head), Faults(), []
     heads = [HEAD.get(head.lower(), head.lower()) for head in sheet.heads]
     if not {"resource", "from", "to"} <= {*heads}:

@@ -63,8 +63,8 @@ def feasible(opened: ProjectFile, given: AnswerText, psmax: Psmax) -> Answer:
 
 
 def counted(opened: ProjectFile, given: AnswerText) -> AnswerText:
-    """The same in today's periods, where the answer counts others. Rows that don't say what they count count what a bare number
-    of the table does."""
+    """The same in today's periods, where the answer counts others. Rows that don't say what they count count what a
+    bare number of the table does."""
     unit, scale = opened.names.unit, opened.table.scale if opened.table is not None else None
     said = given.period
     if scale is not None and given.is_table and not said:
@@ -89,8 +89,8 @@ def counted(opened: ProjectFile, given: AnswerText) -> AnswerText:
 
 
 def tie(opened: ProjectFile, given: AnswerText) -> Tied:
-    """Finds the activities of an answer by their names; by their numbers where the answer or the project has none. The end
-    starts when the others let it, but where starts without names say more."""
+    """Finds the activities of an answer by their names; by their numbers where the answer or the project has none. The
+    end starts when the others let it, but where starts without names say more."""
     project = opened.project
     inner = range(1, project.end)
     if given.names and opened.names.activities:
@@ -152,7 +152,8 @@ def time(opened: ProjectFile, activity: int, begin: Begin, given: AnswerText) ->
 
 
 def same_names(was: dict[int, str], now: dict[int, str]) -> dict[int, int]:
-    """Which activity each one is now. One whose name several have is known only where all of them stand as they stood."""
+    """Which activity each one is now. One whose name several have is known only where all of them stand as they
+    stood."""
     pairs: dict[int, int] = {}
     there = places(now)
     for name, numbers in places(was).items():

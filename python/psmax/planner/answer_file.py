@@ -1,5 +1,5 @@
-"""The file that `plan solve --out` keeps: it gets each shorter schedule, and never a longer one of the same project. A plan of
-the project before it was changed is kept beside it, under a name with its time."""
+"""The file that `plan solve --out` keeps: it gets each shorter schedule, and never a longer one of the same project. A
+plan of the project before it was changed is kept beside it, under a name with its time."""
 import datetime
 import json
 import os
@@ -49,7 +49,8 @@ class AnswerFile:
             raise BadInput(told, *fault.args) from None
 
     def put(self, known: Incumbent) -> bool:
-        """Writes the best schedule, unless another one has put a shorter one there meanwhile. Says whether it is there."""
+        """Writes the best schedule, unless another one has put a shorter one there meanwhile. Says whether it is
+        there."""
         if known.starts is None:
             return False
         there = self.look()

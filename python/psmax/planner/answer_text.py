@@ -90,7 +90,8 @@ def answer_of(data: bytes, called: str) -> AnswerText:
 
 
 def from_lines(text: str, called: str, activities: Mapping[str, object]) -> AnswerText:
-    """The lines of psmax, or of a file of starts. What else is known of the activities stands in the first line, as JSON."""
+    """The lines of psmax, or of a file of starts. What else is known of the activities stands in the first line, as
+    JSON."""
     lines = text.split("\n")
     said, brace, told = lines[0].strip().partition(" {")
     instead = sentence(text.strip(), called)
@@ -178,7 +179,8 @@ def first_line(told: dict[str, object]) -> str | None:
 
 
 def answer_sheet(text: str) -> Sheet | None:
-    """The rows of an answer in CSV, as `plan write` makes it; none where the text is none, or is a table of activities."""
+    """The rows of an answer in CSV, as `plan write` makes it; none where the text is none, or is a table of
+    activities."""
     sheet = named_sheet(text)
     has_starts = sheet is not None and not STARTS.isdisjoint(map(str.lower, sheet.heads))
     return sheet if sheet is not None and has_starts and not is_head(sheet.heads) else None
@@ -202,8 +204,8 @@ def is_answer_head(row: list[str]) -> bool:
 
 
 def from_sheet(sheet: Sheet, called: str) -> AnswerText:
-    """A table with a row for each activity. A column `activity` has numbers, or names where there is no other. The end is not
-    read: it follows from the start."""
+    """A table with a row for each activity. A column `activity` has numbers, or names where there is no other. The end
+    is not read: it follows from the start."""
     heads = [head.lower() for head in sheet.heads]
     columns = {kind: heads.index(head) for kind, known in HEADS.items() for head in known if head in heads}
     given = AnswerText(called, is_table=True, period=period_of(sheet, called, columns))

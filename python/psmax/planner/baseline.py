@@ -5,7 +5,8 @@ from .project_file import ProjectFile
 
 
 def read_baseline(opened: ProjectFile, path: str | None) -> dict[int, tuple[int, int]]:
-    """When each activity that it has too began and ended: after as long as that answer says, or else as it takes today."""
+    """When each activity that it has too began and ended: after as long as that answer says, or else as it takes
+    today."""
     if path is None:
         return {}
     given = counted(opened, read_answer(path).must_have_starts())

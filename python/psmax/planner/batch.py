@@ -1,5 +1,5 @@
-"""`plan batch`: a row for each project of some folders, written when it is known, so that a batch which was cut off goes on
-where it stood."""
+"""`plan batch`: a row for each project of some folders, written when it is known, so that a batch which was cut off
+goes on where it stood."""
 import json
 import os
 import pathlib
@@ -108,8 +108,8 @@ def batch(wanted: Batch) -> int:
 
 
 def chosen(wanted: Batch) -> list[Task]:
-    """The projects of this part, folder after folder, by their names. Where there are several folders, rows and outputs have
-    theirs too."""
+    """The projects of this part, folder after folder, by their names. Where there are several folders, rows and outputs
+    have theirs too."""
     tasks: list[Task] = []
     for name in wanted.folders:
         folder = pathlib.Path(name)
@@ -178,7 +178,8 @@ def row_of(task: Task, wanted: Batch, clock: Clock) -> Row | None:
 
 
 def begin(words: Sequence[str]) -> subprocess.Popen[bytes]:
-    """`plan solve` as a process of its own, which ends with this one. It starts soon without the machine's packages (-S)."""
+    """`plan solve` as a process of its own, which ends with this one. It starts soon without the machine's packages
+    (-S)."""
     home = {"PYTHONPATH": str(pathlib.Path(__file__).resolve().parents[2])}
     return subprocess.Popen(tied([sys.executable, "-S", "-m", "psmax.planner", "solve", *words]), stdin=subprocess.DEVNULL,
                             stdout=subprocess.PIPE, stderr=subprocess.PIPE, env={**os.environ, **home}, start_new_session=True)

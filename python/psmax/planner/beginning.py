@@ -61,8 +61,8 @@ def begin_with(opened: ProjectFile, start: Start) -> Beginning:
 
 
 def begin_near(opened: ProjectFile, given: AnswerText, day: str | None) -> Beginning:
-    """The schedules near to one of the project before it was changed. What starts in that before the day stays, or what the
-    status date says has started."""
+    """The schedules near to one of the project before it was changed. What starts in that before the day stays, or what
+    the status date says has started."""
     given = counted(opened, given)
     tied = tie(opened, given)
     if day is None:
@@ -89,7 +89,8 @@ def frozen(opened: ProjectFile, tied: Tied, day: str) -> Progress:
 
 
 def from_old(opened: ProjectFile, given: AnswerText, tied: Tied, progress: Progress, day: str) -> Beginning:
-    """What has started stays, and the rest is planned from the status date on, as near as can be to the old schedule."""
+    """What has started stays, and the rest is planned from the status date on, as near as can be to the old
+    schedule."""
     project, words, now = opened.project, Words(opened), progress.now or 0
     arcs = () if opened.progress.now is not None else tuple(progress.arcs(project.end - 1))
     must_be_possible(opened, given.called, progress.started)

@@ -1,4 +1,5 @@
-"""The parts of a chart as SVG, from which a page and a picture are made: bars, the use of resources, and lags as arrows."""
+"""The parts of a chart as SVG, from which a page and a picture are made: bars, the use of resources, and lags as
+arrows."""
 import pathlib
 from collections.abc import Sequence
 from functools import partial
@@ -201,8 +202,8 @@ class Chart:
         return f"{bar.label}: {bar.first} to {bar.last}{kind}{spare}{before}"
 
     def load(self, load: Load) -> list[Element]:
-        """The use as a stepped area under a dashed line, which is what there is; hatched from that down what is away, and
-        shaded the times outside its hours; and the scale."""
+        """The use as a stepped area under a dashed line, which is what there is; hatched from that down what is away,
+        and shaded the times outside its hours; and the scale."""
         if not self.shown.is_plan:
             return []
         most = max([load.capacity, 1, *(one.units for one in load.stretches)])
@@ -240,8 +241,8 @@ class Chart:
         return [self.arrow(arc, words, " circle") for arc in arcs]
 
     def arrow(self, arc: Arc, words: Words, kind: str) -> Element:
-        """From what is waited for to what waits, and from the end of that where the lag counts beyond it: along its row,
-        and then to the row of the other."""
+        """From what is waited for to what waits, and from the end of that where the lag counts beyond it: along its
+        row, and then to the row of the other."""
         first, last = (arc.head, arc.tail) if arc.lag < 0 else (arc.tail, arc.head)
         begins, ends, y1, length = self.place(first)
         x1, (x2, _, y2, _) = ends if 0 <= length <= abs(arc.lag) else begins, self.place(last)
@@ -251,7 +252,8 @@ class Chart:
         return group(parts, "lag" + (" greatest" if arc.lag < 0 else "") + kind, data_ends=f"{first} {last}")
 
     def place(self, activity: int) -> tuple[float, float, float, int]:
-        """Where it begins and ends, where its row is, and its length; the start is above all rows, and the end below."""
+        """Where it begins and ends, where its row is, and its length; the start is above all rows, and the end
+        below."""
         if activity in self.bars:
             row, bar = self.bars[activity]
             return *self.axis.of(bar), ROW * row + ROW / 2, bar.ends - bar.begins

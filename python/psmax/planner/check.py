@@ -1,4 +1,5 @@
-"""`plan check`: whether a schedule is feasible, and otherwise what of it is not, by name; of a table alone what was read."""
+"""`plan check`: whether a schedule is feasible, and otherwise what of it is not, by name; of a table alone what was
+read."""
 from ..clock import Clock
 from ..psmax import Psmax
 from .answer import judged

@@ -9,8 +9,8 @@ MOST = 10
 
 
 def circles(project: Project, psmax: Psmax) -> Iterator[list[Arc]]:
-    """One circle after another, each once psmax finds it positive by itself. The maximum lag of each is left out for the
-    next ones, so that all contradictions are met, and none twice."""
+    """One circle after another, each once psmax finds it positive by itself. The maximum lag of each is left out for
+    the next ones, so that all contradictions are met, and none twice."""
     arcs = project.rules()
     for _ in range(MOST):
         circle = [Arc(*arc) for arc in positive_cycle([(*arc,) for arc in arcs], len(project.durations))]

@@ -19,8 +19,8 @@ RESOURCE = re.compile(r"(.*\S)\s*\(\s*(\d+)\s*(?:[,;]\s*([^()]*[^()\s])\s*)?\)")
 
 
 class Column(Enum):
-    """What a column has. The value is what it is called in faults. Each is looked up for each cell, so its hash is the one of
-    an object, which takes no call of Python."""
+    """What a column has. The value is what it is called in faults. Each is looked up for each cell, so its hash is the
+    one of an object, which takes no call of Python."""
 
     __hash__ = object.__hash__
 
@@ -90,7 +90,8 @@ class Columns:
     own: list[int] = field(default_factory=list)  # of words for people alone, which plan passes over
 
     def hours(self) -> dict[int, Hours]:
-        """Those of the resources that have some, by their numbers. What is wrong with others was told where heads are read."""
+        """Those of the resources that have some, by their numbers. What is wrong with others was told where heads are
+        read."""
         found: dict[int, Hours] = {}
         for number, place in enumerate(self.resources):
             with suppress(ValueError):
@@ -151,8 +152,8 @@ def read_heads(file: str, sheet: Sheet, faults: Faults) -> Columns:
 
 
 def is_own(sheet: Sheet, place: int) -> bool:
-    """Whether a column has words for people alone: its name is like none that plan knows, and some cell is neither a number
-    nor a date. What may be meant for something else is a fault."""
+    """Whether a column has words for people alone: its name is like none that plan knows, and some cell is neither a
+    number nor a date. What may be meant for something else is a fault."""
     head, cells = sheet.heads[place].lower(), [cell(row, place) for row in sheet.rows]
     is_words = any(text and not is_dated(text) and not WITH_NUMBER.match(text) for text in cells)
     return is_words and head not in ELSEWHERE and "(" not in head and not like(head)

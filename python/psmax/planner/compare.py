@@ -12,9 +12,9 @@ from .project_file import ProjectFile
 
 
 class Side:
-    """One schedule, by the numbers that its activities have in its answer. Ends follow from the starts: by how long the answer
-    says that an activity took, else by how long it takes today. Dates are those of the project before it was changed, where it
-    had the same periods."""
+    """One schedule, by the numbers that its activities have in its answer. Ends follow from the starts: by how long the
+    answer says that an activity took, else by how long it takes today. Dates are those of the project before it was
+    changed, where it had the same periods."""
 
     def __init__(self, given: AnswerText, opened: ProjectFile, before: ProjectFile | None = None) -> None:
         self.opened = opened

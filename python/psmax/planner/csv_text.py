@@ -57,9 +57,9 @@ def cell(row: Sequence[str], column: int | None) -> str:
 
 def read_sheet(file: str, text: str, names_columns: Callable[[list[str]], bool] = lambda row: True,
                count_heads: Callable[[list[str]], int] = lambda row: 0) -> Sheet:
-    """The separator is the one that a line `sep=` tells, else the one of comma, semicolon and tab that most rows have at
-    least once. The first row that names the columns is asked for; where none does, it is the first one that has most of their
-    names. Heads have one blank between words."""
+    """The separator is the one that a line `sep=` tells, else the one of comma, semicolon and tab that most rows have
+    at least once. The first row that names the columns is asked for; where none does, it is the first one that has most
+    of their names. Heads have one blank between words."""
     must_be_small(file, text, SEPARATORS.values())
     text = composed(text.removeprefix(MARK))
     told = SEP_LINE.match(text)
@@ -149,8 +149,8 @@ def as_shown(cell: object) -> object:
 
 
 def write_sheet(rows: Iterable[Sequence[object]], separator: str = ",", excel: bool = False) -> str:
-    """The rows as a text; for a spreadsheet with a byte order mark, lines that end as it ends them, and words that it shows
-    as they are."""
+    """The rows as a text; for a spreadsheet with a byte order mark, lines that end as it ends them, and words that it
+    shows as they are."""
     text = io.StringIO()
     made = ([as_shown(cell) for cell in row] for row in rows) if excel else rows
     csv.writer(text, delimiter=separator, lineterminator="\r\n" if excel else "\n").writerows(made)

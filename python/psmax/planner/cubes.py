@@ -1,5 +1,5 @@
-"""`plan solve --out FOLDER/`: one project in cubes, on the processors of this machine or of a cluster, and the answer of what
-`psprove verify` accepts."""
+"""`plan solve --out FOLDER/`: one project in cubes, on the processors of this machine or of a cluster, and the answer
+of what `psprove verify` accepts."""
 import os
 import pathlib
 from collections import Counter
@@ -34,7 +34,8 @@ class Places:
     record: str | None
 
     def must_lose_none(self, reads: Mapping[str, str], writes: list[str | None]) -> None:
-        """A fault where the folder would replace a file, or one of these a file of the folder. Its own project stays."""
+        """A fault where the folder would replace a file, or one of these a file of the folder. Its own project
+        stays."""
         must_be_ours(pathlib.Path(self.folder))
         others = {what: path for what, path in reads.items() if not same_file(path, os.path.join(self.folder, PROJECT))}
         lose_none(others, [*writes, outside(self.folder, self.record)], self.folder)

@@ -1,4 +1,5 @@
-"""One table has one decimal sign: a point, or a comma. By that 1.000 is one, or a thousand; where nothing says it, a fault."""
+"""One table has one decimal sign: a point, or a comma. By that 1.000 is one, or a thousand; where nothing says it, a
+fault."""
 import re
 from collections.abc import Iterator, Mapping
 from dataclasses import dataclass, replace
@@ -31,7 +32,8 @@ class Found:
 
     @property
     def sign(self) -> str:
-        """The decimal sign that the number has, or by its signs of thousands may have alone; empty where it may be either."""
+        """The decimal sign that the number has, or by its signs of thousands may have alone; empty where it may be
+        either."""
         signs = [sign for sign in self.number if sign in SIGNS]
         if THOUSANDS.fullmatch(self.number):
             return "" if len(signs) == 1 else next(sign for sign in SIGNS if sign != signs[0])

@@ -1,5 +1,5 @@
-"""`plan float`: from when to when each activity may start while the others stay as they are; with --total, when it can start at
-the latest in any schedule that is no longer."""
+"""`plan float`: from when to when each activity may start while the others stay as they are; with --total, when it can
+start at the latest in any schedule that is no longer."""
 import os
 from dataclasses import dataclass
 

@@ -45,8 +45,8 @@ def parts_of(country: type) -> list[str]:
 
 
 def of_file(path: str, order: str | None, first: datetime.date) -> Days:
-    """A day a line, or a range such as 2026-12-24 .. 2027-01-06, and behind it a name; or a code, whose holidays are added.
-    A line that begins with # is a note."""
+    """A day a line, or a range such as 2026-12-24 .. 2027-01-06, and behind it a name; or a code, whose holidays are
+    added. A line that begins with # is a note."""
     days: Days = {}
     faults, count = list[str](), 0
     for number, text in lines_of(path).items():

@@ -96,8 +96,8 @@ def fill(cells: list[str], sign: str, begins: int, ends: int, first: int, scale:
 
 
 def load_cells(load: Load, first: int, scale: int, columns: int) -> str:
-    """The greatest use in each column: the units, or ninths of a larger capacity; ! above what is there, / where units are
-    away and none is in use."""
+    """The greatest use in each column: the units, or ninths of a larger capacity; ! above what is there, / where units
+    are away and none is in use."""
     most, gone, over = [0] * columns, [0] * columns, [False] * columns
     for found, into in ((load.stretches, most), (load.away, gone)):
         for stretch in found:

@@ -1,5 +1,5 @@
-"""`plan write` to iCalendar (RFC 5545), for phones: an event for each activity, or for those that need a resource. An event is
-known by the project and the name of its activity, so that a new import moves what was there."""
+"""`plan write` to iCalendar (RFC 5545), for phones: an event for each activity, or for those that need a resource. An
+event is known by the project and the name of its activity, so that a new import moves what was there."""
 import datetime
 import hashlib
 import os
@@ -17,7 +17,7 @@ LONGEST = 75  # bytes of a line
 DAY = datetime.timedelta(days=1)
 YEAR = 400 * DAY  # and more
 SECOND = datetime.timedelta(seconds=1)
-FIRST = datetime.datetime(2020, 1, 1, tzinfo=datetime.UTC)  # from when on the seconds are counted by which events follow
+FIRST = datetime.datetime(2020, 1, 1, tzinfo=datetime.UTC)  # from when seconds are counted, by which events follow
 STAMP = "%Y%m%dT%H%M%S"
 
 
@@ -68,7 +68,8 @@ def event(opened: ProjectFile, activity: int, start: int, now: datetime.datetime
 
 
 def identity(opened: ProjectFile, activity: int) -> str:
-    """By the title of the project, or else its file and its folder, and by the name of the activity, or else its number."""
+    """By the title of the project, or else its file and its folder, and by the name of the activity, or else its
+    number."""
     path = os.path.realpath(opened.path)
     file = os.path.join(os.path.basename(os.path.dirname(path)), os.path.splitext(os.path.basename(path))[0])
     told = f"{opened.settings.title or file}\n{opened.names.activities.get(activity) or activity}"

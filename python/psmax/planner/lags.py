@@ -1,5 +1,5 @@
-"""The lags of a table: what its columns `after`, `at least`, `at most` and `predecessors` say, as arcs from start to start. A
-lag to or from a group is one of each of its activities."""
+"""The lags of a table: what its columns `after`, `at least`, `at most` and `predecessors` say, as arcs from start to
+start. A lag to or from a group is one of each of its activities."""
 import re
 from collections.abc import Collection, Iterable, Mapping, Sequence
 from contextlib import suppress
@@ -25,7 +25,7 @@ QUOTED = re.compile(r'\s*(?:"((?:[^"]|"")*)"\s*|([^;]*))(?:;|$)')
 GERMAN = {"EA": "FS", "AA": "SS", "EE": "FF", "AE": "SF"}
 LINK = re.compile(r"(.*?)\s*(?:(FS|SS|FF|SF|EA|AA|EE|AE)\s*([-+][^<\u2264]*)?(?:(?:<=?|\u2264)(.*))?)?", re.I)
 SIGN = r"(?:[-+]|<=?|\u2264)\s*"  # before the number of a lag
-DECIMAL = re.compile(rf"({SIGN}\d+),(\d+\s*(?:(?:{'|'.join(WORDS)})\b|%))", re.I)  # between predecessors a comma separates
+DECIMAL = re.compile(rf"({SIGN}\d+),(\d+\s*(?:(?:{'|'.join(WORDS)})\b|%))", re.I)  # a comma elsewhere separates
 EITHER = re.compile(rf"{SIGN}\d+,\d+\s*(?:,|$)")
 LENGTHS = re.compile(rf"{SIGN}({NUMBER}(?![\d.,]*\s*%)\s*[^\W\d_]*)")
 SHARE = re.compile(rf"({NUMBER})\s*%")  # of the duration of the activity from which a lag counts
@@ -55,8 +55,8 @@ class Activities:
 
 @dataclass(frozen=True)
 class Side:
-    """What a lag is tied to at one of its sides: the start or the end of an activity, or of a group, or the start of the
-    project and so many periods behind it."""
+    """What a lag is tied to at one of its sides: the start or the end of an activity, or of a group, or the start of
+    the project and so many periods behind it."""
 
     numbers: Sequence[int]
     is_end: bool = False

@@ -1,5 +1,5 @@
-"""The page beside a project: a table like those of examples/*.md, which names its activities and resources, and perhaps a
-second one, which says from when on and on which days there is work."""
+"""The page beside a project: a table like those of examples/*.md, which names its activities and resources, and perhaps
+a second one, which says from when on and on which days there is work."""
 import re
 from dataclasses import dataclass, field, replace
 
@@ -21,7 +21,7 @@ class Names:
     settings: dict[str, str] = field(default_factory=dict)  # rows of the second table
     source: str = ""  # the table that the project was made from
     digest: str = ""  # of that, by SHA-256
-    ids: dict[int, str] = field(default_factory=dict)  # by which the table knows the activities, where it has a column for that
+    ids: dict[int, str] = field(default_factory=dict)  # by which a table with a column for them knows its activities
 
     def label(self, number: int) -> str:
         """What stands before the name of an activity: its ID, or else its number."""

@@ -97,8 +97,8 @@ class Page:
         return {"lines": lines, "loads": loads, "rows": rows, "uses": uses}
 
     def line(self, label: str, height: int, parts: list[Element], said: str, activity: int | None) -> Element:
-        """A row of the chart, which paper keeps together. There it has its own grid behind it; on a screen all rows have
-        one, since a thousand take long to draw."""
+        """A row of the chart, which paper keeps together. There it has its own grid behind it; on a screen all rows
+        have one, since a thousand take long to draw."""
         kind = "load" if height == LOAD else "line" if activity is not None else "line group"
         line = mark("tr", kind) if activity is None else mark("tr", kind, data_a=activity)
         cell = mark("td")

@@ -69,7 +69,8 @@ class Tables:
         return "critical" if latest.is_critical else latest.text(self.opened.length), latest.least - latest.start
 
     def chain(self) -> list[Element]:
-        """The critical activities in the order of their starts, each with what holds it; nothing where none is known."""
+        """The critical activities in the order of their starts, each with what holds it; nothing where none is
+        known."""
         rows = []
         for bar in (bar for bar in self.activities if bar.is_critical and bar.activity is not None):
             holds = [mark("div", "", text) for text in self.held(bar.activity or 0)]

@@ -90,8 +90,8 @@ class PlanSearch(threading.Thread):
         return known
 
     def explain(self) -> None:
-        """Why there is no schedule, as `plan why` says it; before that a circle of lags, where there is one, since it is found
-        at once."""
+        """Why there is no schedule, as `plan why` says it; before that a circle of lags, where there is one, since it
+        is found at once."""
         clock, words = self.new_clock(), Words(self.opened, self.beginning.frozen)
         circle = next(circles(self.beginning.project, Psmax(clock, self.opened.path)), list[Arc]())
         if circle:

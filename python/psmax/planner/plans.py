@@ -110,8 +110,8 @@ class Plan(Claim):
 
 
 def keep(plan: Plan | None) -> list[str]:
-    """Writes the answer, the record, the page and a copy of the table beside that, with its mode, and the time in their names,
-    which it returns. What they hold is judged first: the schedule by psmax, and the record by `verify`."""
+    """Writes the answer, the record, the page and a copy of the table beside that, with its mode, and the time in their
+    names, which it returns. What they hold is judged first: the schedule by psmax, and the record by `verify`."""
     if plan is None or plan.starts is None:
         raise BadInput("there is no plan on the screen")
     base = f"{os.path.splitext(plan.opened.path)[0]}-{datetime.datetime.now():%Y-%m-%d-%H%M%S}"

@@ -1,5 +1,5 @@
-"""How far a project has come: what has started stays at its real start, and takes what follows; the rest starts from the
-status date on."""
+"""How far a project has come: what has started stays at its real start, and takes what follows; the rest starts from
+the status date on."""
 import re
 from collections.abc import Sequence
 from dataclasses import dataclass, field
@@ -34,8 +34,8 @@ class Progress:
                     self.started[number], durations[number - 1] = so_far(row, self.now, durations[number - 1])
 
     def waiting(self, durations: Sequence[int]) -> list[int]:
-        """What takes no time and was not reached by the status date. There it stands at that day, and not at the end of the
-        work before it, which is over."""
+        """What takes no time and was not reached by the status date. There it stands at that day, and not at the end of
+        the work before it, which is over."""
         return [i for i, length in enumerate(durations, 1) if self.now and not length and i not in self.started]
 
     def arcs(self, count: int) -> list[Arc]:

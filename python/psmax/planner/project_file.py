@@ -1,5 +1,5 @@
-"""A project as it is opened: a table, which is read anew each time, a .sch file with its page of names, or a text of another
-format."""
+"""A project as it is opened: a table, which is read anew each time, a .sch file with its page of names, or a text of
+another format."""
 import datetime
 import os
 import re
@@ -71,7 +71,8 @@ class ProjectFile:
         return self.sources | self.settings.files()
 
     def times(self, activity: int, begins: int) -> tuple[str, str]:
-        """When an activity begins and ends, where it begins at this time: as dates, or else as lengths from the start."""
+        """When an activity begins and ends, where it begins at this time: as dates, or else as lengths from the
+        start."""
         if self.calendar is None:
             return self.after(begins), self.after(begins + self.project.durations[activity])
         first, last = self.span(activity, begins)
@@ -95,8 +96,8 @@ class ProjectFile:
         return self.table is None or self.table.scale.is_own()
 
     def changeable(self) -> int:
-        """How many of the project's arcs are lags that one could change; those behind keep what has started, and tie the parts
-        of what may pause."""
+        """How many of the project's arcs are lags that one could change; those behind keep what has started, and tie
+        the parts of what may pause."""
         pauses = self.table.pauses if self.table is not None else ()
         return len(self.project.arcs) - len(self.progress.arcs(self.project.end - 1)) - len(pauses)
 

@@ -73,8 +73,8 @@ def time_after(text: str, own: Unit) -> Length | None:
 
 
 def day_of_serial(text: str, periods: int, calendar: Calendar | None) -> Moment | None:
-    """The day that a spreadsheet left as a number in a column of dates, where that is more periods than ten years have; none
-    where it is such a number of periods. ValueError says why it can be neither, or may be both."""
+    """The day that a spreadsheet left as a number in a column of dates, where that is more periods than ten years have;
+    none where it is such a number of periods. ValueError says why it can be neither, or may be both."""
     number = int(text)
     is_like = LEAST_DAY <= number <= MOST_DAY
     if periods <= FEWEST:
@@ -152,7 +152,8 @@ class Scale:
         return unit.value if count == 1 else f"{count} {unit.value}"
 
     def is_own(self) -> bool:
-        """Whether a period is what the column of durations names, or what numbers in it count where it names nothing."""
+        """Whether a period is what the column of durations names, or what numbers in it count where it names
+        nothing."""
         return self.name() == self.head.value or (self.is_named and self.own is Unit.PERIODS)
 
     def time(self, periods: int) -> str:
@@ -164,8 +165,8 @@ class Scale:
         return self.name() if self.is_named and self.own is Unit.PERIODS else self.own.value
 
     def text(self, periods: int) -> str:
-        """A length as the table writes it: in periods of its own; else in days, or where it has hours too in hours. All lengths
-        of a table have one unit."""
+        """A length as the table writes it: in periods of its own; else in days, or where it has hours too in hours. All
+        lengths of a table have one unit."""
         if self.is_own() or periods == 0:
             return f"{periods}"
         if self.period is not Unit.MINUTES:
@@ -185,9 +186,9 @@ def in_minutes(unit: Unit, day: int | None, week: int) -> int | None:
 
 def scale_of(lengths: Iterable[Length], own: Unit, head: Unit, shift: Iterable[tuple[int, int]] | None,
              week: int) -> Scale | None:
-    """The longest period that divides all lengths, and that is no longer than an hour where some are in hours, and so on; one
-    of minutes only where the table's own unit is that. Where it is shorter than a day it divides the hours of work too; none
-    where it needs these and nothing says them."""
+    """The longest period that divides all lengths, and that is no longer than an hour where some are in hours, and so
+    on; one of minutes only where the table's own unit is that. Where it is shorter than a day it divides the hours of
+    work too; none where it needs these and nothing says them."""
     lengths = [*lengths]
     parts = None if shift is None else [ends - begins for begins, ends in shift]
     day = None if parts is None else sum(parts)

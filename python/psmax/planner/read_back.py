@@ -1,6 +1,6 @@
-"""What plan has read from a table, in the planner's own measures: a line that begins each search, and for `plan check` without
-an answer the settings with their rows, the calendar of the first three weeks, and absences by day. Whatever a table says
-changes some figure of the line."""
+"""What plan has read from a table, in the planner's own measures: a line that begins each search, and for `plan check`
+without an answer the settings with their rows, the calendar of the first three weeks, and absences by day. Whatever a
+table says changes some figure of the line."""
 import datetime
 from collections.abc import Iterator
 from dataclasses import fields
@@ -48,8 +48,8 @@ def many(count: int, what: str) -> str:
 
 
 def figures(file: ProjectFile) -> Iterator[str]:
-    """How long all activities and lags are, how much work that is, how many ends are open, and when all can have ended by lags
-    alone."""
+    """How long all activities and lags are, how much work that is, how many ends are open, and when all can have ended
+    by lags alone."""
     project, words = file.project, Words(file)
     yield f"durations of {words.many(sum(project.durations))}"
     if project.capacities:

@@ -1,5 +1,5 @@
-"""`plan report`: one page of HTML that needs nothing else: the schedule with its lags, the use of resources, the float of
-each activity, and what is proved by which record."""
+"""`plan report`: one page of HTML that needs nothing else: the schedule with its lags, the use of resources, the float
+of each activity, and what is proved by which record."""
 import hashlib
 import pathlib
 from dataclasses import dataclass

@@ -1,5 +1,5 @@
-"""What `plan watch` shows: the plans of the day, and what is wrong with the table as it stands. Threads change it and wait for
-changes, of which each has a number."""
+"""What `plan watch` shows: the plans of the day, and what is wrong with the table as it stands. Threads change it and
+wait for changes, of which each has a number."""
 import os
 import threading
 from dataclasses import replace

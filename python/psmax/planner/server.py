@@ -1,5 +1,5 @@
-"""The server of `plan watch`: the page and its data, for a browser of this machine alone. Whoever doesn't know the token, names
-another host, or comes from another page, gets nothing."""
+"""The server of `plan watch`: the page and its data, for a browser of this machine alone. Whoever doesn't know the
+token, names another host, or comes from another page, gets nothing."""
 import hmac
 import json
 import math

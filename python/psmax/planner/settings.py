@@ -1,5 +1,5 @@
-"""What holds for a whole project: its calendar, what is away, how far it has come, what is minimized. The words of the command
-say it, else rows above the table, else the page of names."""
+"""What holds for a whole project: its calendar, what is away, how far it has come, what is minimized. The words of the
+command say it, else rows above the table, else the page of names."""
 import datetime
 import os
 from collections.abc import Mapping
@@ -81,8 +81,8 @@ def checked(settings: Settings) -> Settings:
 
 
 def calendar(settings: Settings, unit: str, days: frozenset[datetime.date] = frozenset()) -> Calendar | None:
-    """None where nothing says when the project begins. A period is what the settings say, and else such a unit. There is no
-    work on these days either."""
+    """None where nothing says when the project begins. A period is what the settings say, and else such a unit. There
+    is no work on these days either."""
     if settings.first is None:
         for name in ("workdays", "holidays", "zone"):
             if getattr(settings, name) is not None:
@@ -119,8 +119,8 @@ def must_be_periods(text: str, name: str, time: int, found: Calendar | None) -> 
 
 
 def time_of(text: str, name: str, settings: Settings, found: Calendar | None, scale: Scale | None) -> int:
-    """The first time that is not before a date; or a number, which counts what a bare duration of a table does, or has a
-    unit of its own."""
+    """The first time that is not before a date; or a number, which counts what a bare duration of a table does, or has
+    a unit of its own."""
     length = time_after(text, Unit.PERIODS if scale is None else scale.own)
     if length is not None:
         try:

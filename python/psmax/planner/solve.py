@@ -85,8 +85,8 @@ def solve(opened: ProjectFile, start: Start, options: Options) -> int:
 
 
 def give(known: Incumbent, opened: ProjectFile, options: Options, kept: AnswerFile | None) -> None:
-    """Prints what is known, and writes what was asked for. A schedule that can't be written is printed, in the lines of psmax,
-    which have no room for dates; so these are told."""
+    """Prints what is known, and writes what was asked for. A schedule that can't be written is printed, in the lines of
+    psmax, which have no room for dates; so these are told."""
     if known.value is None and not known.none and opened.project.horizon is not None:
         tell(known.clock, Words(opened).nothing_within(known.bound))
     plain, lines = known.answer().decode(), headline(opened, known, known.starts)

@@ -6,7 +6,8 @@ from ..cubes.folder import is_driven, must_be_whole
 from ..cubes.tree import Tree
 from ..record import PROVED
 
-# A time is told where the same rule, used at these parts of the seconds so far, has said how much is refuted now, this nearly.
+# A time is told where the same rule, used at these parts of the seconds so far, has said how much is refuted now, this
+# nearly.
 PAST, NEARLY = (0.25, 0.5), 0.25
 UNITS = (("d", 86_400), ("h", 3_600), ("min", 60), ("s", 1))
 
@@ -36,7 +37,8 @@ def bound(tree: Tree) -> str:
 
 
 def seconds_left(shares: Sequence[tuple[float, float]]) -> float | None:
-    """As long as the tree takes by its mean speed, if that has been right in the past: then it is as much as was said."""
+    """As long as the tree takes by its mean speed, if that has been right in the past: then it is as much as was
+    said."""
     seconds, share = shares[-1]
     for past in PAST:
         said = share_at(shares, past * seconds) / past

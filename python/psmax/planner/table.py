@@ -170,8 +170,8 @@ class Reading:
                      terms.head_row, crews, pauses)
 
     def with_crews(self, project: Project, crews: Crews | None, cuts: Cuts | None) -> tuple[Project, tuple[Arc, ...]]:
-        """With the times outside hours, and with what ties the parts of rows that may pause, which stands behind all other
-        arcs."""
+        """With the times outside hours, and with what ties the parts of rows that may pause, which stands behind all
+        other arcs."""
         if crews is None or cuts is None:
             if self.settings.horizon is not None:
                 raise BadInput(f"horizon {short(self.settings.horizon)}: no resource has hours of its own")
@@ -319,7 +319,8 @@ class Reading:
         return found, names
 
     def said_of_period(self) -> list[str]:
-        """What a period is, where it is no unit of the table's own, and which hours a day has, where nobody has said it."""
+        """What a period is, where it is no unit of the table's own, and which hours a day has, where nobody has said
+        it."""
         scale = self.terms.scale
         if not self.terms.is_guess and (scale.period in (scale.own, Unit.PERIODS) or scale.name() == scale.counts()):
             return []
@@ -343,8 +344,8 @@ class Reading:
 
 
 def without_history(arcs: Sequence[Arc], progress: Progress, dated: Sequence[DatedLag]) -> tuple[list[Arc], list[Arc]]:
-    """The lags but for those between two that have started where they weren't kept, and these. Both starts are real, so such
-    a lag says nothing of what comes."""
+    """The lags but for those between two that have started where they weren't kept, and these. Both starts are real, so
+    such a lag says nothing of what comes."""
     starts = progress.started | {0: 0}
     late = [one.arc for one in dated if {one.first, one.last} <= starts.keys() and one.slack(starts) < 0]
     broken = [arc for arc in arcs if arc.tail in starts and arc.head in starts

@@ -48,7 +48,8 @@ def work_time(opened: ProjectFile) -> WorkTime | None:
 
 def add_lags(made: Project, arcs: Iterable[Arc]) -> None:
     """What is 0 or more is a least length. What is below 0 is a greatest one the other way round where minimum lags
-    lead that way, and else a least one too. Each counts from the end of an activity where it is no shorter than that."""
+    lead that way, and else a least one too. Each counts from the end of an activity where it is no shorter than
+    that."""
     before: dict[int, set[int]] = {}
     for arc in arcs:
         if arc.lag >= 0 and arc.tail:

@@ -1,5 +1,5 @@
-"""Where times stand in a chart: by the clock where there is a calendar, so that nights and days off have their room, and by
-their numbers where there is none."""
+"""Where times stand in a chart: by the clock where there is a calendar, so that nights and days off have their room,
+and by their numbers where there is none."""
 import datetime
 from collections.abc import Iterator, Sequence
 from dataclasses import dataclass

@@ -134,8 +134,8 @@ class Watch:
             return anew
 
     def plan(self, opened: ProjectFile, beginning: Beginning, schedule: Schedule | None, given: AnswerText | None) -> None:
-        """Where the project is the same, the plan and its search stay, perhaps with other names or dates. Else the page says so
-        first, since a search may take seconds to end."""
+        """Where the project is the same, the plan and its search stay, perhaps with other names or dates. Else the page
+        says so first, since a search may take seconds to end."""
         now, notes = self.screen.plans.get(self.screen.latest), (*opened.notes, *beginning.told)
         if now is not None and now.project == beginning.project and now.opened.project == opened.project:
             is_told_so = schedule is None or schedule.told() == Schedule(opened, schedule.starts).told()
@@ -264,8 +264,8 @@ def serve(watching: Watch) -> None:
 
 
 def forward(folder: str, address: str) -> str:
-    """A page that nobody else can read, and that leads a browser to the address. So the token stands in no argument, which all
-    users of a machine see."""
+    """A page that nobody else can read, and that leads a browser to the address. So the token stands in no argument,
+    which all users of a machine see."""
     path = os.path.join(folder, "open.html")
     with open(os.open(path, os.O_WRONLY | os.O_CREAT | os.O_EXCL, 0o600), "w") as file:
         file.write(FORWARD.format(address))

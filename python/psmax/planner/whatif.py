@@ -1,5 +1,5 @@
-"""`plan whatif`: what changes give that the planner names; or one unit more of a resource, one absence less, or a maximum
-lag loosened or dropped. psprove proves each."""
+"""`plan whatif`: what changes give that the planner names; or one unit more of a resource, one absence less, or a
+maximum lag loosened or dropped. psprove proves each."""
 import datetime
 from collections.abc import Sequence
 from concurrent.futures import ThreadPoolExecutor

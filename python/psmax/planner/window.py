@@ -78,8 +78,8 @@ def windows(project: Project, starts: tuple[int, ...], psmax: Psmax) -> dict[int
 
 
 def groups(project: Project, starts: tuple[int, ...], moves: list[tuple[int, int]]) -> list[dict[int, int]]:
-    """Moves of activities, in groups of which one check confirms each move alone: no lag ties two of a group, and no two use
-    one resource at the same time, before or behind their moves."""
+    """Moves of activities, in groups of which one check confirms each move alone: no lag ties two of a group, and no
+    two use one resource at the same time, before or behind their moves."""
     tied: list[set[int]] = [{activity} for activity in range(project.end + 1)]
     for tail, head, _ in project.rules():
         tied[tail].add(head)

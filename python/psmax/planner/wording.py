@@ -1,5 +1,5 @@
-"""Lags, absences and violations in a planner's words: from the end of an activity, where a lag counts from there, and by dates,
-where there is a calendar."""
+"""Lags, absences and violations in a planner's words: from the end of an activity, where a lag counts from there, and
+by dates, where there is a calendar."""
 from collections.abc import Collection, Sequence
 
 from ..dated import DatedLag

@@ -1,5 +1,5 @@
-"""`plan write`: a schedule as a table in CSV, with names and, from a first day on, with dates; or as a calendar, or in the file
-of another tool."""
+"""`plan write`: a schedule as a table in CSV, with names and, from a first day on, with dates; or as a calendar, or in
+the file of another tool."""
 import datetime
 import os
 import pathlib
