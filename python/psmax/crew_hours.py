@@ -8,7 +8,7 @@ from .calendars import DAY, Calendar, Days, Shifts, at_midnight, minutes_of
 from .dates import MIDNIGHT, SPAN, read_workdays
 from .errors import BadInput
 from .letters import short
-from .project import MOST_ACTIVITIES, Off, Project
+from .project import MOST_ACTIVITIES, Numbers, Off
 from .serial import serial_end
 
 DAY_SHIFT, NIGHT_SHIFT = "06:00-18:00", "18:00-06:00"  # of two that share a day
@@ -132,7 +132,7 @@ def windows(off: Collection[Off], crews: Collection[int], now: int, until: int) 
     return found + ([(time, until)] if time < until else [])
 
 
-def with_hours(project: Project, crews: Crews, wanted: int | None) -> Project:
+def with_hours(project: Numbers, crews: Crews, wanted: int | None) -> Numbers:
     """The project with the times outside hours, up to the horizon that is wanted, or to one behind a schedule by
     the minimum lags."""
     if wanted is not None:
@@ -149,7 +149,7 @@ def with_hours(project: Project, crews: Crews, wanted: int | None) -> Project:
     return found
 
 
-def cut_off(project: Project, crews: Crews, horizon: int) -> Project:
+def cut_off(project: Numbers, crews: Crews, horizon: int) -> Numbers:
     try:
         return replace(project, off=crews.off(horizon), horizon=horizon, crews=frozenset(crews.hours))
     except ValueError as fault:

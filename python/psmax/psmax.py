@@ -7,10 +7,11 @@ from dataclasses import dataclass, replace
 from typing import NamedTuple
 
 from .errors import Failed
-from .outcome import ODD, Solved, of_answer
+from .known import ODD, Known, of_answer
 from .programs import Program
-from .project import Arc, Goal, Project
+from .project import Arc, Goal, Numbers
 from .project_text import ProjectText
+from .record_file import new_file
 
 
 @dataclass(frozen=True)
@@ -33,7 +34,7 @@ class Psmax(Program):
     name = "psmax"
     asked: ProjectText | None = None  # the project of the last check, of which there may be many
 
-    def earliest(self, project: Project) -> int | None:
+    def earliest(self, project: Numbers) -> int | None:
         """What is minimized, by the lags alone; none where they contradict each other."""
         spelled = ProjectText(project)
         found = self.earliest_of_text(spelled.text)
@@ -50,14 +51,14 @@ class Psmax(Program):
             raise self.odd("earliest")
         return tuple(int(line.split()[1]) for line in out.splitlines()[1:]) or None
 
-    def solve(self, project: Project, nodes: int, workers: int | None, start: tuple[int, ...] | None = None) -> Solved:
+    def solve(self, project: Numbers, nodes: int, workers: int | None, start: tuple[int, ...] | None = None) -> Known:
         """A search of so many nodes, until the clock is over, from starts that are feasible where there are some. Without
         workers it goes depth first, and has neither a start nor a record."""
-        spelled = ProjectText(project)
-        with tempfile.TemporaryDirectory(prefix="plan-") as folder:
-            record, first = os.path.join(folder, "record"), os.path.join(folder, "start")
+        spelled, record = ProjectText(project), None if workers is None else new_file(self.folder)
+        with tempfile.TemporaryDirectory(prefix=".plan-") as own:
+            first = os.path.join(own, "start")
             arguments = ["solve", "--json", "--nodes", f"{nodes}"]
-            arguments += [] if workers is None else ["--workers", f"{workers}", "--record", record]
+            arguments += [] if record is None else ["--workers", f"{workers}", "--record", record.path]
             if start is not None:
                 with open(first, "wb") as file:
                     file.write(starts_text(spelled.inward(start)))
@@ -68,7 +69,7 @@ class Psmax(Program):
             except ODD:
                 raise self.odd("solve") from None
 
-    def check(self, project: Project, starts: tuple[int, ...]) -> Checked:
+    def check(self, project: Numbers, starts: tuple[int, ...]) -> Checked:
         """What psmax says of the starts. Whatever is minimized, a schedule is feasible by its lags and resources. Lags in
         calendar days are kept or not by their dates."""
         if project.horizon is not None:

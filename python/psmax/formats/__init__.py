@@ -65,6 +65,11 @@ def named(name: str) -> Format:
     return FORMATS[name]
 
 
+def is_like_some(text: str) -> bool:
+    """Whether a text has one of the formats."""
+    return any(one.is_like(text) for one in FORMATS.values())
+
+
 def found(text: str) -> Format:
     """The format of a text, by what it holds."""
     one = next((one for one in FORMATS.values() if one.is_like(text)), None)

@@ -241,7 +241,7 @@ def read(text: str, project: Parts) -> None:
     document = Document(root)
     project.name = printable(text_of(root, "Title") or "")
     needs = Needs(document)
-    project.work_time = document.work_time
+    project.calendar = document.work_time
     with document.kept():
         needs.fill(project)
     due = due_dates(document)

@@ -73,7 +73,7 @@ def dates_of(time: WorkTime | None, tool: str) -> Dates:
         return Dates(time, 1, minutes)
     if minutes >= MINUTES["days"]:
         days = minutes // MINUTES["days"]
-        halves = replace(time, first=time.first.split()[0], period=HALF, shift=USUAL)
+        halves = replace(time, first=time.begin.split()[0], period=HALF, shift=USUAL)
         return Dates(halves, 2 * days, days * sum(ends - begins for begins, ends in read_shift(USUAL)))
     found = Dates(replace(time, shift=ALL_DAY, zone=None), 1, minutes)
     if time.zone is not None or found.calendar.begins(0) != time.calendar().begins(0):

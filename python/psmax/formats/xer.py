@@ -19,7 +19,7 @@ def fill(document: Document, project: Parts) -> None:
     if not document.activities:
         raise BadInput("the project has no activities")
     progress = Progress(document)
-    project.name, project.work_time = document.title, progress.work_time
+    project.name, project.calendar = document.title, progress.work_time
     with document.kept():
         document.must_count_lags()
     needs = Needs(document, progress.calendar, progress.crews)

@@ -7,7 +7,7 @@ from math import ceil
 from ..dates import read_moment
 from ..errors import BadInput
 from ..letters import at_most, printable, short
-from ..project import Project, least_end
+from ..project import Numbers, least_end
 from ..psmax import Psmax
 from .answer_text import AnswerText, Begin
 from .project_file import ProjectFile
@@ -18,7 +18,7 @@ from .wording import Words
 class Answer:
     """Starts of every activity, and what psmax says of them."""
 
-    project: Project
+    project: Numbers
     starts: tuple[int, ...]
     said: str  # the first line of the answer that was handed in, if it had one
     value: int | None  # what is minimized, by `check`, where the starts are a feasible schedule

@@ -4,7 +4,7 @@ from dataclasses import dataclass, field, replace
 from ..clock import Clock
 from ..errors import BadInput
 from ..letters import at_most
-from ..project import MOST_ARCS, Arc, Project
+from ..project import MOST_ARCS, Arc, Numbers
 from ..psmax import Psmax
 from .answer import Answer, Tied, counted, feasible, tie
 from .answer_text import AnswerText, read_answer
@@ -28,7 +28,7 @@ class Start:
 
 @dataclass(frozen=True)
 class Beginning:
-    project: Project  # that is searched
+    project: Numbers  # that is searched
     schedules: list[tuple[tuple[int, ...], str]] = field(default_factory=list)  # each with what it is called
     old: dict[int, int] = field(default_factory=dict)  # starts in a plan before, near to which the search begins
     frozen: tuple[Arc, ...] = ()  # that keep what has started, and the rest from starting before that

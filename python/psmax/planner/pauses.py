@@ -8,7 +8,7 @@ from dataclasses import dataclass, field
 from ..crew_hours import SPANS, Crews, Stretch, windows
 from ..dated import DatedLag
 from ..errors import BadInput
-from ..project import Arc, Project
+from ..project import Arc, Numbers
 from .columns import Column
 from .crews import needed
 from .faults import CellFault, Faults
@@ -116,7 +116,7 @@ class Cuts:
         return [Arc(names[first], names[last], min(steps[one.crew], default=one.shift)) for one in self.found
                 for first, last in zip(one.parts, one.parts[1:])]
 
-    def lags(self, project: Project, names: dict[str, int]) -> tuple[list[Arc], list[DatedLag]]:
+    def lags(self, project: Numbers, names: dict[str, int]) -> tuple[list[Arc], list[DatedLag]]:
         """By which each part begins with the shift after that of the one before."""
         arcs, dated = list[Arc](), list[DatedLag]()
         for one in self.found:

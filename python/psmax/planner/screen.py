@@ -43,9 +43,9 @@ class Screen:
             return self.latest
 
     def forget(self, number: int) -> None:
-        record = self.plans.pop(number).record
+        record = self.plans.pop(number).known.record
         if record is not None:
-            os.unlink(record)
+            os.unlink(record.path)
 
     def learn(self, number: int, **news: Any) -> None:
         """What is known of a plan by now."""

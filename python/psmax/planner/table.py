@@ -10,7 +10,7 @@ from ..dates import is_dated
 from ..errors import BadInput
 from ..letters import printable, short
 from ..model import Group
-from ..project import MOST_ACTIVITIES, MOST_ARCS, Arc, Goal, Project
+from ..project import MOST_ACTIVITIES, MOST_ARCS, Arc, Goal, Numbers
 from ..work_time import minutes_of, moment, workdays
 from .above import Above, read_above
 from .absences import read_absences
@@ -34,7 +34,7 @@ MOST_ROWS = 10_000  # of activities, and of what more is said of them
 class Table:
     """What a table of activities says."""
 
-    project: Project
+    project: Numbers
     names: Names
     settings: Settings
     calendar: Calendar | None
@@ -169,7 +169,7 @@ class Reading:
                      tuple(row.number for row in self.rows), tuple(notes), above, terms.columns,
                      terms.head_row, crews, pauses)
 
-    def with_crews(self, project: Project, crews: Crews | None, cuts: Cuts | None) -> tuple[Project, tuple[Arc, ...]]:
+    def with_crews(self, project: Numbers, crews: Crews | None, cuts: Cuts | None) -> tuple[Numbers, tuple[Arc, ...]]:
         """With the times outside hours, and with what ties the parts of rows that may pause, which stands behind all other
         arcs."""
         if crews is None or cuts is None:
@@ -299,7 +299,7 @@ class Reading:
                 with self.faults.kept():
                     raise row.fault(column, "a group has no dates or demands of its own; its activities have them")
 
-    def project(self, arcs: tuple[Arc, ...], due: dict[int, int], called: dict[int, str]) -> tuple[Project, Names]:
+    def project(self, arcs: tuple[Arc, ...], due: dict[int, int], called: dict[int, str]) -> tuple[Numbers, Names]:
         """With its absences, and with what is minimized."""
         file, settings = self.terms.file, self.settings
         if len(arcs) > MOST_ARCS:
@@ -310,7 +310,7 @@ class Reading:
         resources = [resource(self.terms.columns.heads[place]) for place in self.terms.columns.resources]
         none = (0,) * len(resources)
         capacities = tuple(int(units) for _, units in resources)
-        found = Project((0, *self.durations, 0), (none, *self.demands, none), capacities, arcs, (), due, goal)
+        found = Numbers((0, *self.durations, 0), (none, *self.demands, none), capacities, arcs, (), due, goal)
         names = Names(called, [name for name, _ in resources], self.terms.scale.name(), source=printable(file))
         if settings.absences is not None:
             found = replace(found, absences=tuple(read_absences(settings.absences, found, names, self.terms)))

@@ -14,6 +14,7 @@ from ..project_text import ProjectText
 from ..psmax import Psmax
 from ..psprove import Psprove
 from ..record import OF_PSMAX, WRONG, Record, record_in
+from ..record_file import RecordFile, record_at
 from .beginning import Start, begin_with
 from .project_file import ProjectFile
 
@@ -97,10 +98,10 @@ def verdict(opened: ProjectFile, path: str, start: Start, shares: Shares | None 
     project, which = begin_with(opened, start).project, f"{opened.path}{keeps}"
     begin = b"" if shares is None else read_bytes(path, len(OF_PSMAX) - 1)
     if shares is None or begin == OF_PSMAX or project.dated:
-        return judged(record_in(read_bytes(path, None), project), path, which)
+        return judged(record_in(record_at(path), project), path, which)
     spelled = ProjectText(project)
     found = shares.parts(path, spelled.text).check()
-    return Verdict(path, Record(begin, spelled), which, Psprove.name, "verify_log.py", found.says, found.is_wrong,
+    return Verdict(path, Record(RecordFile(path), spelled), which, Psprove.name, "verify_log.py", found.says, found.is_wrong,
                    found.count, found.own, found.believed)
 
 

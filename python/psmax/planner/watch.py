@@ -17,6 +17,7 @@ from ..call_files import lose_none, must_be_like
 from ..clock import Clock
 from ..errors import BadInput, Failed, Fault
 from ..files import BLANKS, DASH, SPREADSHEET, Saves, read_bytes, read_text
+from ..known import Known
 from ..project_text import ProjectText
 from ..record import BEGIN
 from .above import read_above
@@ -143,7 +144,7 @@ class Watch:
             return self.screen.tell(())
         number = self.screen.add(Plan(
             opened, beginning.project, f"{datetime.datetime.now():%H:%M:%S}", schedule, shadow(opened, given),
-            opened.project.goal, None, ProjectText(beginning.project).value(0), notes=notes))
+            Known(opened.project.goal, bound=ProjectText(beginning.project).value(0)), notes=notes))
         self.stop()
         limits = Limits(self.options.seconds, self.options.jobs, self.options.record)
         self.search = PlanSearch(self.screen, number, beginning, limits, self.folder)
@@ -169,7 +170,7 @@ class Watch:
         plan = self.screen.plan()
         if plan is None:
             raise BadInput("nothing is planned yet")
-        return f"{text}: {tried(plan.opened, plan.starts, text, self.options.seconds)}"
+        return f"{text}: {tried(plan.opened, plan.known.starts, text, self.options.seconds)}"
 
     def stop(self) -> str:
         """Ends the search, whose record is whole then."""
@@ -194,7 +195,7 @@ class Watch:
         """Ends the search, and keeps what was found, unless it is kept already."""
         self.stop()
         plan = self.screen.plan()
-        if plan is not None and plan.starts is not None and self.kept != self.screen.shown:
+        if plan is not None and plan.known.starts is not None and self.kept != self.screen.shown:
             yield self.keep()
 
 

@@ -7,11 +7,12 @@ from ..call_files import lose_none, must_be_empty
 from ..clock import Clock, tell
 from ..errors import BadInput, TimeUp
 from ..files import write_whole
-from ..outcome import Solved
-from ..project import MOST_UNITS, Arc, Goal, Kind, Part, Project, parts, too_needy, with_lag, within, without
+from ..known import Known
+from ..project import MOST_UNITS, Arc, Goal, Kind, Numbers, Part, parts, too_needy, with_lag, within, without
 from ..project_text import ProjectText
 from ..psmax import Psmax, starts_text
 from ..psprove import Limits, Psprove
+from ..record_file import RecordFile
 from .beginning import Start, begin_with
 from .circles import circles, in_words
 from .project_file import ProjectFile, must_be_ordinary
@@ -28,9 +29,9 @@ class Core:
     """A smallest set of maximum lags, resources and absences that contradict each other: without any one of them there
     is a schedule."""
 
-    project: Project  # which has no schedule
+    project: Numbers  # which has no schedule
     fixed: set[Part]  # that nobody asks about: a deadline, and what has started
-    record: bytes  # proves that there is none, also without what is gone
+    record: RecordFile | None  # proves that there is none, also without what is gone
     gone: set[Part] = field(default_factory=set)
     schedules: dict[Part, tuple[int, ...]] = field(default_factory=dict)  # of what is left without that part
 
@@ -52,7 +53,8 @@ class Core:
     def write(self, folder: str) -> None:
         """What is left and the record, and for each part what is left without it and a schedule."""
         os.makedirs(folder, exist_ok=True)
-        files = {"core.sch": ProjectText(without(self.project, self.gone)).text, "core.record": self.record}
+        files = {"core.sch": ProjectText(without(self.project, self.gone)).text,
+                 "core.record": b"" if self.record is None else self.record.read()}
         for place, part in enumerate(self.parts(), 1):
             if part in self.schedules:
                 spelled = ProjectText(without(self.project, {*self.gone, part}))
@@ -65,7 +67,7 @@ class Core:
 class Causes:
     """What there is to say goes to `say`, line by line; `arcs` are the lags that it is about."""
 
-    def __init__(self, opened: ProjectFile, project: Project, clock: Clock, jobs: int, deadline: int | None,
+    def __init__(self, opened: ProjectFile, project: Numbers, clock: Clock, jobs: int, deadline: int | None,
                  say: Callable[[str], object] = print) -> None:
         self.say, self.arcs = say, list[Arc]()
         self.psmax, self.psprove, self.jobs = Psmax(clock, opened.path), Psprove(clock, opened.path), jobs
@@ -141,7 +143,7 @@ class Causes:
         elif all(answer.none for answer in answers):
             self.say("No maximum lag, taken out alone, opens a schedule.")
 
-    def without_lag(self, place: int) -> Solved:
+    def without_lag(self, place: int) -> Known:
         arc = self.project.arcs[place]
         answer = self.ask(without(self.project, {Part(Kind.LAG, place)}))
         if answer.starts is not None:
@@ -163,7 +165,7 @@ class Causes:
             more = self.words.allowed(self.project.arcs[-1], answer.value - self.deadline)
             self.say(f"{more}, which is enough, and {also}.")
 
-    def ask(self, project: Project) -> Solved:
+    def ask(self, project: Numbers) -> Known:
         return self.psprove.ask(project, self.limits(CONFLICTS))
 
     def least_enough(self, place: int, found: tuple[int, ...]) -> tuple[int, bool]:

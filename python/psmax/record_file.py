@@ -1,0 +1,77 @@
+"""Files with records, which may be too long for memory."""
+import os
+import pathlib
+import tempfile
+import weakref
+from collections.abc import Callable, Iterable
+
+from .files import DASH, read_bytes, rename_whole, write_parts
+
+CHUNK = 1 << 20  # bytes that are read at once
+
+
+class RecordFile:
+    """A file with a record. One that a search wrote goes once nobody needs it any more, unless it is kept under a name."""
+
+    def __init__(self, path: str, is_ours: bool = False) -> None:
+        self.path = path
+        if is_ours:
+            weakref.finalize(self, remove, path, os.getpid())
+
+    def __repr__(self) -> str:
+        return f"RecordFile({self.path!r}, {self.size():,} bytes)"
+
+    def __reduce__(self) -> tuple[Callable[[bytes], "RecordFile"], tuple[bytes]]:
+        """A pickle has the bytes of the record, and makes a file of them where it is read."""
+        return file_of, (self.read(),)
+
+    def size(self) -> int:
+        return os.path.getsize(self.path) if os.path.exists(self.path) else 0
+
+    def read(self) -> bytes:
+        return pathlib.Path(self.path).read_bytes()
+
+    def begins_with(self, begin: bytes) -> bool:
+        with open(self.path, "rb") as file:
+            return file.read(len(begin)) == begin
+
+    def chunks(self) -> Iterable[bytes]:
+        with open(self.path, "rb") as file:
+            while found := file.read(CHUNK):
+                yield found
+
+    def write(self, path: str) -> None:
+        """A copy under this name, whole or not at all."""
+        write_parts(path, self.chunks())
+
+    def keep(self, path: str) -> "RecordFile":
+        """Gives the file this name, where it lies in the same folder; it stays then."""
+        rename_whole(self.path, path)
+        return RecordFile(path)
+
+
+def remove(path: str, owner: int) -> None:
+    """With what psprove was killed at. A process that was copied from the owner removes nothing."""
+    for place in (path, f"{path}.part") if os.getpid() == owner else ():
+        pathlib.Path(place).unlink(missing_ok=True)
+
+
+def new_file(folder: str | None = None) -> RecordFile:
+    """A new file, in the folder of the system for such, or in this one."""
+    place, path = tempfile.mkstemp(prefix=".plan-record-", dir=folder)
+    os.close(place)
+    return RecordFile(path, is_ours=True)
+
+
+def file_of(data: bytes) -> RecordFile:
+    made = new_file()
+    pathlib.Path(made.path).write_bytes(data)
+    return made
+
+
+def record_at(path: str) -> RecordFile:
+    """The record that a user names; one on standard input becomes a file of ours. Failed where it can't be read."""
+    if path == DASH:
+        return file_of(read_bytes(path, None))
+    read_bytes(path, 0)
+    return RecordFile(path)
