@@ -3,7 +3,7 @@ from importlib import import_module
 from typing import TYPE_CHECKING
 
 if TYPE_CHECKING:
-    from .answer import Answer, Changed, Checked, Float, Progress, Schedule, Span, Status, Violation, ViolationKind
+    from .answer import Answer, Changed, Checked, Float, Progress, Schedule, Span, Status, Violation, ViolationKind, Why
     from .api import Project
     from .errors import BadInput, Failed, Fault, UnknownName, WrongType
     from .live_search import Search
@@ -17,7 +17,7 @@ __version__ = "1.0.0"  # CONTRIBUTING.md says where else it is spelled
 
 __all__ = ["Absence", "Activity", "Answer", "BadInput", "ChangeKind", "Changed", "Checked", "Failed", "Fault", "Float", "Goal",
            "Lag", "Point", "Progress", "Project", "Proof", "Record", "Resource", "Schedule", "Search", "Span", "Status",
-           "UnknownName", "Violation", "ViolationKind", "WorkTime", "WrongType", "__version__"]
+           "UnknownName", "Violation", "ViolationKind", "Why", "WorkTime", "WrongType", "__version__"]
 
 MODULES = ("errors", "work_time", "project", "model", "whatif", "record", "answer", "live_search", "api")  # of these names
 

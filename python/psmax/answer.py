@@ -307,4 +307,14 @@ class Changed:
     seconds: float
 
 
+@dataclass(frozen=True)
+class Why:
+    """Why there is no schedule: what contradicts each other, besides minimum lags."""
+
+    status: Status  # `no schedule`, or there is one, or psprove could not say
+    parts: tuple[Resource | Lag | Absence, ...]
+    is_smallest: bool  # whether there is a schedule without any one of them
+    schedule: Schedule | None  # that psprove found, where there is one
+
+
 Starts = Schedule | Answer | Mapping[Activity, int] | Mapping[str, int]

@@ -3,15 +3,17 @@ import copy
 import logging
 import os
 from collections.abc import Callable, Mapping
+from contextlib import suppress
 from dataclasses import dataclass, replace
 from typing import Self
 
 from . import formats, psmax, whatif
-from .answer import (Answer, Changed, Checked, Float, Progress, Question, Schedule, Starts, Status, Violation, ViolationKind,
-                     question)
+from .answer import (
+    Answer, Changed, Checked, Float, Progress, Question, Schedule, Starts, Status, Violation, ViolationKind, Why, question)
 from .call_files import lose_none, must_be_like
 from .clock import Clock
-from .errors import BadInput, WrongType
+from .core import find_core
+from .errors import BadInput, TimeUp, WrongType
 from .files import SPREADSHEET, decoded, folder_of, read_bytes, write_whole
 from .formats import json_text
 from .incumbent import Incumbent
@@ -19,8 +21,8 @@ from .known import Known
 from .letters import at_most, short
 from .live_search import Search
 from .model import Absence, Activity, Lag, Parts, Resource, must_be_a
-from .periods import Time, begin_of, whole
-from .project import MOST_UNITS, Arc, Goal, Kind, least_end
+from .periods import Time, begin_of, end_of, whole
+from .project import MOST_UNITS, Arc, Goal, Kind, Numbers, Part, least_end, within
 from .project_text import ProjectText
 from .psmax import Psmax
 from .psprove import Limits, Psprove
@@ -188,6 +190,21 @@ class Project(Parts):
         file = file_of(record) if isinstance(record, bytes) else record_at(os.fspath(record))
         return record_in(file, self.numbers(minimize)).verify()
 
+    def why(self, deadline: Time | None = None, seconds: float = SECONDS, jobs: int | None = None,
+            minimize: str = "makespan") -> Why:
+        """Why there is no schedule; or none that ends by the deadline, a time or a date; or with the lateness, none that has no
+        more than that. What is in the way is a smallest set of resources, absences and maximum lags, proved by psprove."""
+        clock, asked = clock_of(seconds), question(self, minimize)
+        numbers, fixed = with_deadline(self, asked.numbers, deadline)
+        with clock.interrupted():
+            known, found = Known(asked.numbers.goal, bound=0), None
+            with suppress(TimeUp):
+                known, found = find_core(numbers, fixed, Psprove(clock, CALLED), jobs_of(jobs))
+        schedule = None if known.starts is None else Schedule(asked, known.starts)
+        needed = [] if found is None else found.parts()
+        return Why(Status(known.status()), tuple(part_of(self, part.kind, part.number) for part in needed),
+                   found is not None and {*needed} == {*found.schedules}, schedule)
+
     def whatif(self, seconds: float = SECONDS, jobs: int | None = None, minimize: str = "makespan") -> list[Changed]:
         """What one unit more of each resource, each absence less, and each maximum lag longer or dropped gives, proved by
         psprove. The shortest schedule comes first."""
@@ -224,6 +241,18 @@ def read_table(made: Parts, data: bytes, called: str, is_text: bool) -> bool:
         return False
     fill(made, open_table_text(called, decoded(data)) if is_text else open_table(called, Settings()))
     return True
+
+
+def with_deadline(project: Parts, numbers: Numbers, deadline: Time | None) -> tuple[Numbers, set[Part]]:
+    """With the lag of a deadline, which nobody asks about."""
+    if deadline is None:
+        return numbers, set()
+    time = whole(deadline, "the deadline", -MOST_UNITS) if numbers.goal is Goal.LATENESS else \
+        end_of(deadline, "the deadline", project.calendar)
+    limited = within(numbers, time)
+    if limited is None:
+        raise BadInput(f"the deadline: {time:,} has no room in this project")
+    return limited, {Part(Kind.LAG, len(limited.arcs) - 1)}
 
 
 def jobs_of(jobs: int | None) -> int:

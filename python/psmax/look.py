@@ -58,7 +58,7 @@ def picture(answer: "Answer") -> str:
     if answer.schedule is None:
         return f"<p>{escape(f'{answer}')}</p>"
     data = base64.b64encode(answer.chart().encode()).decode()
-    return f'<img alt="{escape(f"{answer}")}" src="data:image/svg+xml;base64,{data}">'
+    return f'<img alt="{escape(f"{answer}")}" src="data:image/svg+xml;base64,{data}" />'
 
 
 def table(project: Parts) -> str:

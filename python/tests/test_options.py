@@ -187,7 +187,8 @@ class Records(InFolder):
 
     def peak(self, script: str, *words: object, **env: str) -> list[int]:
         given = {**os.environ, **CALLED, "PYTHONPATH": str(TOP / "python"), **env}
-        ran = subprocess.run([sys.executable, "-c", script.replace("PEAK", PEAK), *map(str, words)], capture_output=True, text=True, env=given)
+        call = [sys.executable, "-c", script.replace("PEAK", PEAK), *map(str, words)]
+        ran = subprocess.run(call, capture_output=True, text=True, env=given)
         return [*map(int, ran.stdout.split())] or self.fail(ran.stderr)
 
     def test_memory_of_many(self) -> None:
