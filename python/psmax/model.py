@@ -27,7 +27,7 @@ class Resource:
 
     def __setattr__(self, key: str, value: object) -> None:
         project = vars(self).get("project")
-        super().__setattr__(key, value if project is None else project.checked_of_resource(self, key, value))
+        super().__setattr__(key, value if project is None else project._checked_of_resource(self, key, value))
 
 
 @dataclass(eq=False)
@@ -44,7 +44,7 @@ class Activity:
 
     def __setattr__(self, key: str, value: object) -> None:
         project = vars(self).get("project")
-        super().__setattr__(key, value if project is None else project.checked_of_activity(self.name, key, value))
+        super().__setattr__(key, value if project is None else project._checked_of_activity(self.name, key, value))
 
     @property
     def start(self) -> "Point":
@@ -171,7 +171,7 @@ class Parts:
         must_be_new(name, self._named, "activity")
         must_be_room(self.activities, MOST_ACTIVITIES, "activities")
         told = {"duration": duration, "demands": {} if demands is None else demands, "due": due}
-        checked = {key: self.checked_of_activity(name, key, value) for key, value in told.items()}
+        checked = {key: self._checked_of_activity(name, key, value) for key, value in told.items()}
         made = Activity(name, number=len(self.activities) + 1, project=self, **checked)
         self.activities.append(made)
         self._named[name] = made
@@ -235,7 +235,7 @@ class Parts:
         self.groups = [left for left in (group.without(number) for group in self.groups) if left.activities]
         vars(gone)["project"] = None
 
-    def checked_of_activity(self, name: str, key: str, value: object) -> Any:
+    def _checked_of_activity(self, name: str, key: str, value: object) -> Any:
         """What a field of an activity becomes."""
         if key == "duration":
             return length_of(value, f"the duration of {name}", self.calendar)
@@ -247,7 +247,7 @@ class Parts:
                     for resource, units in value.items()}  # type: ignore[attr-defined]
         raise AttributeError(f"the {key} of an activity stays as it is")
 
-    def checked_of_resource(self, one: Resource, key: str, value: object) -> int:
+    def _checked_of_resource(self, one: Resource, key: str, value: object) -> int:
         """What a field of a resource becomes. Where fewer are there than are away, nothing does."""
         if key != "capacity":
             raise AttributeError(f"the {key} of a resource stays as it is")

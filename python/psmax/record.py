@@ -66,7 +66,7 @@ class Record:
             raise Failed(f"{program.name} verify gave an answer that plan does not know: {told}")
         return told, status == WRONG
 
-    def bound(self, told: str) -> int | None:
+    def bound_by(self, told: str) -> int | None:
         """The bound of what is minimized that a program says is proved."""
         found = PROVED.fullmatch(told)
         return self.spelled.value(int(found[3])) if found and found[3] else None
@@ -76,7 +76,7 @@ class Record:
         told, is_wrong = self.told(self.judge())
         if is_wrong:
             raise BadInput(f"the record: {told}")
-        bound, is_optimal = self.bound(told), "optimal" in told
+        bound, is_optimal = self.bound_by(told), "optimal" in told
         kind = "optimal" if is_optimal else "bound"
         says = told if bound is None else f"proved {kind} {self.spelled.project.goal.words(bound)}"
         return Proof(says, bound, is_optimal)
@@ -108,7 +108,7 @@ class CaseRecord(Record):
             told, is_wrong = record.told(program)
             if is_wrong:
                 return f"case {number} of {len(leaves)}: {told}", True
-            least = min(least, leaf.bound(record.bound(told)))
+            least = min(least, leaf.bound(record.bound_by(told)))
         value = None if starts is None else Psmax(Clock(), program.project).check(project, starts).value
         if starts is not None and (value is None or value < least):
             return "cases: schedule", True
@@ -116,7 +116,7 @@ class CaseRecord(Record):
             return "proved no schedule", False
         return f"proved {'optimal' if value == least else 'bound'} {int(least)}", False
 
-    def bound(self, told: str) -> int | None:
+    def bound_by(self, told: str) -> int | None:
         found = re.fullmatch(r"proved (?:bound|optimal) (-?\d+)", told)
         return int(found[1]) if found else None
 

@@ -39,7 +39,7 @@ class Verdict:
     @property
     def bound(self) -> int | None:
         """A lower bound of what is minimized; none where there is no schedule."""
-        return self.record.bound(self.told)
+        return self.record.bound_by(self.told)
 
     def sentence(self) -> str:
         if self.wrong:
