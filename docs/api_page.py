@@ -1,8 +1,8 @@
 #!/usr/bin/env python3
 """docs/api_page.py
 
-Writes docs/API.md: what `import psmax` has, by the docstrings and the comments behind fields. `python/tests/test_api.py`
-holds the page to the sources."""
+Writes docs/API.md: what `import psmax` has, by the docstrings and the comments behind fields.
+`python/tests/test_api.py` holds the page to the sources."""
 import ast
 import pathlib
 import re
@@ -14,7 +14,8 @@ PACKAGE = TOP / "python" / "psmax"
 PAGE = TOP / "docs" / "API.md"
 BEGIN = """# The package, name by name
 
-Made by `docs/api_page.py` from the sources. [PYTHON.md](PYTHON.md) is the guide. In arguments these names stand for others:
+Made by `docs/api_page.py` from the sources. [PYTHON.md](PYTHON.md) is the guide. In arguments
+these names stand for others:
 
 - `Path`: `str | os.PathLike[str]`
 - `Time`: a whole number of periods from the start on; or with a calendar a date, a datetime, or one as a text
@@ -23,10 +24,12 @@ Made by `docs/api_page.py` from the sources. [PYTHON.md](PYTHON.md) is the guide
 """
 PARTS = {"Project": "Parts", "Span": "Times"}  # classes whose members stand in the section of another one
 HIDDEN_BASES = {*PARTS.values(), "StrEnum", "Enum", "Exception"}
-INTERNAL = {"numbers", "arcs", "crews", "crews_off", "judge", "told", "cases", "question", "known", "spelled", "file", "span",
-            "clock", "must_have_schedule", "dates", "of", "bound_by", "offset", "project", "number", "work_time", "begin"}
+INTERNAL = {"numbers", "arcs", "crews", "crews_off", "judge", "told", "cases", "question", "known", "spelled", "file",
+            "span", "clock", "must_have_schedule", "dates", "of", "bound_by", "offset", "project", "number", "work_time",
+            "begin"}
 WIDTH = 116
-Def = ast.FunctionDef | ast.AsyncFunctionDef
+Def = (ast.FunctionDef, ast.AsyncFunctionDef)
+Function = ast.FunctionDef | ast.AsyncFunctionDef
 
 sys.path.insert(0, str(TOP / "python"))
 
@@ -61,8 +64,8 @@ def section(name: str, classes: dict[str, tuple[ast.ClassDef, list[str]]]) -> li
 
 def members(node: ast.ClassDef, lines: list[str]) -> list[tuple[ast.stmt, list[str]]]:
     """With what is made at the beginning of an object."""
-    made = [inner for member in node.body if isinstance(member, Def) and member.name == "__init__" for inner in member.body
-            if isinstance(inner, ast.AnnAssign)]
+    first = [member for member in node.body if isinstance(member, Def) and member.name == "__init__"]
+    made = [inner for member in first for inner in member.body if isinstance(inner, ast.AnnAssign)]
     return [(member, lines) for member in [*made, *node.body]]
 
 
@@ -86,11 +89,11 @@ def typed(node: ast.expr | None) -> str:
     return "" if node is None else ast.unparse(node).strip("'\"")
 
 
-def decorators(node: Def) -> list[str]:
+def decorators(node: Function) -> list[str]:
     return [*map(ast.unparse, node.decorator_list)]
 
 
-def is_property(node: Def) -> bool:
+def is_property(node: Function) -> bool:
     return not {"property", "cached_property"}.isdisjoint(decorators(node))
 
 
@@ -116,7 +119,7 @@ def wrapped(text: str, indent: str, between: str = " ") -> list[str]:
     return found
 
 
-def said(node: ast.ClassDef | Def) -> list[str]:
+def said(node: ast.ClassDef | Function) -> list[str]:
     """The docstring; what is indented or in columns as it stands."""
     text = ast.get_docstring(node)
     found = list[str]()

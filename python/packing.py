@@ -87,7 +87,8 @@ def build_wheel(wheel_directory: str, config_settings: Settings = None, metadata
     return put([*modules(), *programs("psmax/bin"), *programs(commands()), *told()], wheel_directory)
 
 
-def build_editable(wheel_directory: str, config_settings: Settings = None, metadata_directory: str | None = None) -> str:
+def build_editable(wheel_directory: str, config_settings: Settings = None,
+                   metadata_directory: str | None = None) -> str:
     """Writes a wheel there that leads to these sources (PEP 660). Its name."""
     path = f"{TOP / 'python'}\n".encode()
     return put([("psmax.pth", path, 0o644), *programs(commands()), *told()], wheel_directory)

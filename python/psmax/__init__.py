@@ -15,11 +15,13 @@ if TYPE_CHECKING:
 
 __version__ = "1.0.0"  # CONTRIBUTING.md says where else it is spelled
 
-__all__ = ["Absence", "Activity", "Answer", "BadInput", "ChangeKind", "Changed", "Checked", "Failed", "Fault", "Float", "Goal",
-           "Lag", "Point", "Progress", "Project", "Proof", "Record", "Resource", "Schedule", "Search", "Span", "Status",
-           "UnknownName", "Violation", "ViolationKind", "Why", "WorkTime", "WrongType", "__version__"]
+__all__ = ["Absence", "Activity", "Answer", "BadInput", "ChangeKind", "Changed", "Checked", "Failed", "Fault",
+           "Float", "Goal", "Lag", "Point", "Progress", "Project", "Proof", "Record", "Resource", "Schedule",
+           "Search", "Span", "Status", "UnknownName", "Violation", "ViolationKind", "Why", "WorkTime", "WrongType",
+           "__version__"]
 
-MODULES = ("errors", "work_time", "project", "model", "whatif", "record", "answer", "live_search", "api")  # of these names
+# In which these are defined.
+MODULES = ("errors", "work_time", "project", "model", "whatif", "record", "answer", "live_search", "api")
 
 
 def __getattr__(name: str) -> object:

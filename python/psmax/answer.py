@@ -196,7 +196,8 @@ class Answer(Progress):
 
     @cached_property
     def record(self) -> Record | None:
-        """Proves the bound, or that there is no schedule; none where nobody wanted one, or psprove died or was killed."""
+        """Proves the bound, or that there is no schedule; none where nobody wanted one, or psprove died or was
+        killed."""
         return None if self.known.record is None else Record(self.known.record, ProjectText(self.question.numbers))
 
     def __repr__(self) -> str:
@@ -223,27 +224,27 @@ class Answer(Progress):
 
     @classmethod
     def from_dict(cls, project: Parts, told: Mapping[str, object]) -> Self:
-        """The answer that `to_dict` tells, without its record. BadInput where it is none, or psmax finds that its starts are no
-        schedule of the project."""
+        """The answer that `to_dict` tells, without its record. BadInput where it is none, or psmax finds that its
+        starts are no schedule of the project."""
         from .api import answer_from
         return cls(*answer_from(project, told))
 
     def rows(self, floats: "Mapping[Activity, Float] | None" = None) -> list[dict[str, object]]:
         """A row for each activity, in the order of their starts, such as pandas.DataFrame takes: activity, start, end,
-        start_date and end_date where there is a calendar, free_float by psmax, and where the floats of `Project.float` are
-        handed in, float and is_critical. BadInput where there is no schedule."""
-        from .look import rows
-        return rows(self.must_have_schedule(), floats)
+        start_date and end_date where there is a calendar, free_float by psmax, and where the floats of `Project.float`
+        are handed in, float and is_critical. BadInput where there is no schedule."""
+        from .look import rows_of
+        return rows_of(self.must_have_schedule(), floats)
 
     def chart(self) -> str:
         """The schedule as a picture in SVG, as `plan gantt` draws it. BadInput where there is no schedule."""
         from .look import chart
-        return chart(self.must_have_schedule(), f"{self}")
+        return chart(self)
 
     def _repr_html_(self) -> str:
         """The chart, for a notebook."""
-        from .look import picture
-        return picture(self)
+        from .look import chart_html
+        return chart_html(self)
 
 
 class ViolationKind(StrEnum):

@@ -9,7 +9,8 @@ from typing import Self
 
 from . import formats, psmax, whatif
 from .answer import (
-    Answer, Changed, Checked, Float, Progress, Question, Schedule, Starts, Status, Violation, ViolationKind, Why, question)
+    Answer, Changed, Checked, Float, Progress, Question, Schedule, Starts, Status, Violation, ViolationKind, Why,
+    question)
 from .call_files import lose_none, must_be_like
 from .clock import Clock
 from .core import find_core
@@ -21,7 +22,7 @@ from .known import Known
 from .letters import at_most, short
 from .live_search import Search
 from .model import Absence, Activity, Lag, Parts, Resource, must_be_a
-from .periods import Time, begin_of, end_of, whole
+from .periods import Time, first_time, last_time, whole
 from .project import MOST_UNITS, Arc, Goal, Kind, Numbers, Part, least_end, within
 from .project_text import ProjectText
 from .psmax import Psmax
@@ -43,7 +44,7 @@ Frozen = Starts | Mapping[Activity, Time] | Mapping[str, Time]  # starts of some
 
 
 @dataclass(frozen=True)
-class Options:
+class SearchOptions:
     """Those of a search, which `Project.search` describes."""
 
     start: Starts | None
@@ -63,8 +64,8 @@ class Options:
 
 
 class Project(Parts):
-    """Activities that share scarce resources, with minimum and maximum lags between them. Times count whole periods from 0 on,
-    which is the start of the project; with a `calendar` they are dates too."""
+    """Activities that share scarce resources, with minimum and maximum lags between them. Times count whole periods
+    from 0 on, which is the start of the project; with a `calendar` they are dates too."""
 
     def __repr__(self) -> str:
         return f"Project({self.name!r}, {len(self)} activities, {len(self.resources)} resources, {len(self.lags)} lags)"
@@ -81,7 +82,7 @@ class Project(Parts):
         called = "the text" if is_text else os.fsdecode(source)
         data = source if isinstance(source, bytes) else f"{source}".encode() if is_text else read_bytes(called)
         made = cls()
-        if format is not None or not read_table(made, data, called, is_text):
+        if format is not None or not read_if_table(made, data, called, is_text):
             formats.read(data, made, called, format)
         return made
 
@@ -115,12 +116,12 @@ class Project(Parts):
 
     def _repr_html_(self) -> str:
         """Its activities, for a notebook."""
-        from .look import table
-        return table(self)
+        from .look import table_html
+        return table_html(self)
 
     def check(self, starts: Starts) -> Checked:
         """Whether starts of all activities are a feasible schedule, by psmax, and all violations."""
-        return check(question(self), starts)
+        return check_starts(question(self), starts)
 
     def earliest(self) -> Schedule | None:
         """The least starts by the lags alone, by psmax; none where the lags contradict each other."""
@@ -155,8 +156,9 @@ class Project(Parts):
         until      a function that ends the search once it is true of a Progress, in the thread of the search
 
         seed, conflicts, memory, resume, bound and hint are for lemmas. BadInput where an argument is wrong."""
-        return begin(self, seconds, jobs, Options(start, hint, frozen, now, record, proved_by, minimize, seed, conflicts,
-                                                  memory, resume, bound, gap, until))
+        options = SearchOptions(start, hint, frozen, now, record, proved_by, minimize, seed, conflicts, memory, resume,
+                                bound, gap, until)
+        return begin_search(self, seconds, jobs, options)
 
     def solve(self, seconds: float = SECONDS, jobs: int | None = None, *,
               on_progress: Callable[[Progress], object] | None = None, start: Starts | None = None,
@@ -165,41 +167,44 @@ class Project(Parts):
               seed: int | None = None, conflicts: int | None = None, memory: int | None = None,
               resume: Path | Record | None = None, bound: int | None = None, gap: float | None = None,
               until: Callable[[Progress], object] | None = None) -> Answer:
-        """A search to its end, with the options of `search`. `on_progress` hears each Progress, in this thread. Ctrl-C ends the
-        search, and the answer is what is known then. An exception of `on_progress` or `until` ends it too, and is raised.
-        Failed where a program failed; its `answer` is what was known."""
+        """A search to its end, with the options of `search`. `on_progress` hears each Progress, in this thread. Ctrl-C
+        ends the search, and the answer is what is known then. An exception of `on_progress` or `until` ends it too, and
+        is raised. Failed where a program failed; its `answer` is what was known."""
         must_be_function(on_progress, "on_progress")
-        return finish(begin(self, seconds, jobs, Options(start, hint, frozen, now, record, proved_by, minimize, seed, conflicts,
-                                                         memory, resume, bound, gap, until)), on_progress)
+        options = SearchOptions(start, hint, frozen, now, record, proved_by, minimize, seed, conflicts, memory, resume,
+                                bound, gap, until)
+        return finish(begin_search(self, seconds, jobs, options), on_progress)
 
     def replan(self, before: Schedule | Answer, now: Time, seconds: float = SECONDS, jobs: int | None = None, *,
                started: Mapping[Activity, Time] | Mapping[str, Time] | None = None, record: bool | Path | None = None,
                minimize: str = "makespan") -> Answer:
-        """A plan from `now` on, near to the one before. What has started stays: what `started` says, or else what starts before
-        `now` in that plan. Durations may be others by now, and activities may be new or gone."""
-        time = begin_of(now, "now", self.calendar)
+        """A plan from `now` on, near to the one before. What has started stays: what `started` says, or else what
+        starts before `now` in that plan. Durations may be others by now, and activities may be new or gone."""
+        time = first_time(now, "now", self.calendar)
         old = {one: span.start for one, span in schedule_of(before) if one in self}
         frozen = {one: start for one, start in old.items() if start < time}
         if started is not None:
-            frozen = times_of(self, started, "started")
+            frozen = dict(pairs_of(self, started))
         hint = {one: start for one, start in old.items() if one not in frozen}
         return self.solve(seconds, jobs, hint=hint, frozen=frozen, now=time, record=record, minimize=minimize)
 
     def verify(self, record: bytes | Path, minimize: str = "makespan") -> Proof:
-        """What a record of this project proves, in a file or as its bytes. BadInput has its first wrong line or event."""
+        """What a record of this project proves, in a file or as its bytes. BadInput has its first wrong line or
+        event."""
         file = file_of(record) if isinstance(record, bytes) else record_at(os.fspath(record))
         return record_in(file, self.numbers(minimize)).verify()
 
     def why(self, deadline: Time | None = None, seconds: float = SECONDS, jobs: int | None = None,
             minimize: str = "makespan") -> Why:
-        """Why there is no schedule; or none that ends by the deadline, a time or a date; or with the lateness, none that has no
-        more than that. What is in the way is a smallest set of resources, absences and maximum lags, proved by psprove."""
+        """Why there is no schedule; or none that ends by the deadline, a time or a date; or with the lateness, none
+        that has no more than that. What is in the way is a smallest set of resources, absences and maximum lags, proved
+        by psprove."""
         clock, asked = clock_of(seconds), question(self, minimize)
         numbers, fixed = with_deadline(self, asked.numbers, deadline)
         with clock.interrupted():
             known, found = Known(asked.numbers.goal, bound=0), None
             with suppress(TimeUp):
-                known, found = find_core(numbers, fixed, Psprove(clock, CALLED), jobs_of(jobs))
+                known, found = find_core(numbers, fixed, Psprove(clock, CALLED), checked_jobs(jobs))
         schedule = None if known.starts is None else Schedule(asked, known.starts)
         needed = [] if found is None else found.parts()
         return Why(Status(known.status()), tuple(part_of(self, part.kind, part.number) for part in needed),
@@ -210,7 +215,7 @@ class Project(Parts):
         psprove. The shortest schedule comes first."""
         clock, numbers = clock_of(seconds), self.numbers(minimize)
         with clock.interrupted():
-            _, outcomes = whatif.whatif(numbers, Psprove(clock, CALLED), jobs_of(jobs))
+            _, outcomes = whatif.whatif(numbers, Psprove(clock, CALLED), checked_jobs(jobs))
         return [Changed(one.change.kind, part_of(self, one.change.part.kind, one.change.part.number),
                         Status(one.known.status()), one.known.value, one.known.bound, one.seconds) for one in outcomes]
 
@@ -218,9 +223,10 @@ class Project(Parts):
               minimize: str = "makespan") -> dict[Activity, Float]:
         """How much later each activity can start in some schedule that is no longer than this one, proved by psprove."""
         clock, asked = clock_of(seconds), question(self, minimize)
-        found = TotalFloat(asked.numbers, feasible(asked, schedule), (), Psprove(clock, CALLED), is_recorded=False)
+        starts, psprove = feasible_starts(asked, schedule), Psprove(clock, CALLED)
+        found = TotalFloat(asked.numbers, starts, (), psprove, is_recorded=False)
         with clock.interrupted():
-            found.run(jobs_of(jobs))
+            found.run(checked_jobs(jobs))
         latest = {activity: found.found[number] for number, activity in enumerate(asked.activities, 1)}
         return {activity: Float(one.least - one.start, one.most - one.start, one.is_settled)
                 for activity, one in latest.items()}
@@ -230,16 +236,17 @@ def is_no_path(text: str) -> bool:
     return "\n" in text or text.startswith(("{", "<"))
 
 
-def read_table(made: Parts, data: bytes, called: str, is_text: bool) -> bool:
+def read_if_table(made: Parts, data: bytes, called: str, is_text: bool) -> bool:
     """Reads a table of `plan`, if it is one. Whether it is."""
     from .planner.project_file import is_table, open_table, open_table_text
     from .planner.settings import Settings
-    from .planner.table_parts import fill
+    from .planner.table_parts import fill_from_table
     if is_text and data.startswith(SPREADSHEET):
         raise BadInput("the text: a spreadsheet file is read by its path")
-    if not data.startswith(SPREADSHEET) and (formats.is_like_some(decoded(data)) or not is_table(called, decoded(data))):
+    text = "" if data.startswith(SPREADSHEET) else decoded(data)
+    if not data.startswith(SPREADSHEET) and (formats.is_like_some(text) or not is_table(called, text)):
         return False
-    fill(made, open_table_text(called, decoded(data)) if is_text else open_table(called, Settings()))
+    fill_from_table(made, open_table_text(called, text) if is_text else open_table(called, Settings()))
     return True
 
 
@@ -248,14 +255,14 @@ def with_deadline(project: Parts, numbers: Numbers, deadline: Time | None) -> tu
     if deadline is None:
         return numbers, set()
     time = whole(deadline, "the deadline", -MOST_UNITS) if numbers.goal is Goal.LATENESS else \
-        end_of(deadline, "the deadline", project.calendar)
+        last_time(deadline, "the deadline", project.calendar)
     limited = within(numbers, time)
     if limited is None:
         raise BadInput(f"the deadline: {time:,} has no room in this project")
     return limited, {Part(Kind.LAG, len(limited.arcs) - 1)}
 
 
-def jobs_of(jobs: int | None) -> int:
+def checked_jobs(jobs: int | None) -> int:
     """So many as are said, else as there are processors."""
     there = min(len(os.sched_getaffinity(0)), MOST_JOBS)
     return there if jobs is None else whole(jobs, "jobs", 1, MOST_JOBS)
@@ -263,10 +270,10 @@ def jobs_of(jobs: int | None) -> int:
 
 def clock_of(seconds: float) -> Clock:
     """What it tells goes to the log `psmax`."""
-    return Clock(number(seconds, "seconds", 0, MOST_UNITS), lambda at, text: LOG.info("%.2f s: %s", at, text))
+    return Clock(real(seconds, "seconds", 0, MOST_UNITS), lambda at, text: LOG.info("%.2f s: %s", at, text))
 
 
-def number(value: object, what: str, above: float, most: float) -> float:
+def real(value: object, what: str, above: float, most: float) -> float:
     if isinstance(value, bool) or not isinstance(value, (int, float)):
         raise WrongType(f"{what}: {short(repr(value))} is not a number above {above:,} and up to {most:,}")
     if not above < value <= most:
@@ -279,15 +286,16 @@ def must_be_function(value: object, what: str) -> None:
         raise WrongType(f"{what}: {short(repr(value))} is no function")
 
 
-def begin(project: Parts, seconds: float, jobs: int | None, options: Options) -> Search:
+def begin_search(project: Parts, seconds: float, jobs: int | None, options: SearchOptions) -> Search:
     """Checks all that is said, and begins the search."""
     clock, path = clock_of(seconds), path_of(options.record)
-    limits = limits_of(options, clock.seconds, jobs_of(jobs))
+    limits = checked_limits(options, clock.seconds, checked_jobs(jobs))
     lose_none({}, [path])
     must_be_like(path, BEGIN, "record")
     asked = with_frozen(question(project, options.minimize), options)
-    start = None if options.start is None else feasible(asked, options.start)
-    old = {} if options.hint is None else {asked.number(one): time for one, time in pairs_of(project, options.hint, "the hint")}
+    start = None if options.start is None else feasible_starts(asked, options.start)
+    hint = [] if options.hint is None else pairs_of(project, options.hint)
+    old = {asked.number(one): time for one, time in hint}
     best, folder = Incumbent(clock, asked.numbers), folder_of(path)
 
     def work() -> None:
@@ -316,7 +324,7 @@ def path_of(record: bool | Path | None) -> str | None:
     return os.fspath(record)
 
 
-def limits_of(options: Options, seconds: float, jobs: int) -> Limits:
+def checked_limits(options: SearchOptions, seconds: float, jobs: int) -> Limits:
     if options.proved_by not in PROVED_BY:
         raise BadInput(f"proved_by {short(str(options.proved_by))}: neither {' nor '.join(PROVED_BY)}")
     of_lemmas = {"hint": options.hint, "seed": options.seed, "conflicts": options.conflicts, "memory": options.memory,
@@ -332,7 +340,7 @@ def limits_of(options: Options, seconds: float, jobs: int) -> Limits:
                   None if resume is None else record_at(os.fspath(resume)).path, options.record is not False)
 
 
-def enough(options: Options) -> Callable[[Progress], object]:
+def enough(options: SearchOptions) -> Callable[[Progress], object]:
     """Whether a search has come far enough, by its gap and by `until`."""
     must_be_function(options.until, "until")
     gap, until = options.gap, options.until
@@ -340,7 +348,12 @@ def enough(options: Options) -> Callable[[Progress], object]:
         raise WrongType(f"gap: {short(repr(gap))} is not a number from 0 on, such as 0.05")
     if gap is not None and not gap >= 0:
         raise BadInput(f"gap: {short(repr(gap))} is not a number from 0 on, such as 0.05")
-    return lambda told: (gap is not None and told.gap is not None and told.gap <= gap) or (until is not None and until(told))
+
+    def is_enough(told: Progress) -> object:
+        is_near = gap is not None and told.gap is not None and told.gap <= gap
+        return is_near or (until is not None and until(told))
+
+    return is_enough
 
 
 def finish(going: Search, on_progress: Callable[[Progress], object] | None) -> Answer:
@@ -362,7 +375,7 @@ def schedule_of(before: Schedule | Answer) -> Schedule:
     return before.must_have_schedule() if isinstance(before, Answer) else before
 
 
-def pairs_of(project: Parts, starts: Frozen, what: str) -> list[tuple[Activity, int]]:
+def pairs_of(project: Parts, starts: Frozen) -> list[tuple[Activity, int]]:
     """Starts of some activities of a project; BadInput where one is none."""
     if isinstance(starts, (Answer, Schedule)):
         return [(one, span.start) for one, span in schedule_of(starts)]
@@ -370,27 +383,23 @@ def pairs_of(project: Parts, starts: Frozen, what: str) -> list[tuple[Activity, 
     pairs = [(project[key] if isinstance(key, str) else key, time) for key, time in starts.items()]
     for one, _ in pairs:
         project.number(one)
-    return [(one, begin_of(time, f"the start of {one.name}", project.calendar, -MOST_UNITS)) for one, time in pairs]
+    return [(one, first_time(time, f"the start of {one.name}", project.calendar, -MOST_UNITS)) for one, time in pairs]
 
 
-def times_of(project: Parts, starts: Frozen, what: str) -> dict[Activity, int]:
-    return dict(pairs_of(project, starts, what))
-
-
-def with_frozen(asked: Question, options: Options) -> Question:
+def with_frozen(asked: Question, options: SearchOptions) -> Question:
     """With lags that keep what is frozen at its start, and the rest from starting before now."""
-    frozen = {} if options.frozen is None else times_of(asked.project, options.frozen, "frozen")
+    frozen = {} if options.frozen is None else dict(pairs_of(asked.project, options.frozen))
     fixed = {asked.number(one): start for one, start in frozen.items()}
     arcs = [arc for i, start in fixed.items() for arc in (Arc(0, i, start), Arc(i, 0, -start))]
     if options.now is not None:
-        now = begin_of(options.now, "now", asked.project.calendar)
+        now = first_time(options.now, "now", asked.project.calendar)
         arcs += [Arc(0, i, now) for i in range(1, asked.numbers.end) if i not in fixed]
     return replace(asked, numbers=replace(asked.numbers, arcs=(*asked.numbers.arcs, *arcs))) if arcs else asked
 
 
 def starts_of(asked: Question, starts: Starts) -> tuple[int, ...]:
     """Starts of all activities by number; the end starts when the others let it."""
-    found = {0: 0} | {asked.number(one): time for one, time in pairs_of(asked.project, starts, "a start")}
+    found = {0: 0} | {asked.number(one): time for one, time in pairs_of(asked.project, starts)}
     missing = [one.name for number, one in enumerate(asked.activities, 1) if number not in found]
     if missing:
         raise BadInput(*at_most([f"no start for activity '{short(name)}'" for name in missing]))
@@ -398,21 +407,21 @@ def starts_of(asked: Question, starts: Starts) -> tuple[int, ...]:
     return tuple(found[number] for number in range(asked.numbers.end + 1))
 
 
-def check(asked: Question, starts: Starts) -> Checked:
+def check_starts(asked: Question, starts: Starts) -> Checked:
     found = starts_of(asked, starts)
     broken = Psmax(Clock(), CALLED).check(asked.numbers, found).violations
-    return Checked(Schedule(asked, found), tuple(violation(asked, found, one) for one in broken))
+    return Checked(Schedule(asked, found), tuple(named_violation(asked, found, one) for one in broken))
 
 
-def feasible(asked: Question, starts: Starts) -> tuple[int, ...]:
+def feasible_starts(asked: Question, starts: Starts) -> tuple[int, ...]:
     """Starts that are a feasible schedule; whatever else is a fault."""
-    checked = check(asked, starts)
+    checked = check_starts(asked, starts)
     if checked.violations:
         raise BadInput(*at_most([f"not a schedule: {one.text}" for one in checked.violations]))
     return checked.schedule.starts
 
 
-def violation(asked: Question, starts: tuple[int, ...], one: psmax.Violation) -> Violation:
+def named_violation(asked: Question, starts: tuple[int, ...], one: psmax.Breach) -> Violation:
     """The same by names, and as a sentence."""
     names, numbers = ["the start", *(activity.name for activity in asked.activities), "the end"], asked.numbers
     if one.kind == "overload":
@@ -433,7 +442,8 @@ def violation(asked: Question, starts: tuple[int, ...], one: psmax.Violation) ->
         late = asked.activities[one.numbers[0] - 1]
         return Violation(ViolationKind.OVERLOAD, (late,), None, None,
                          f"{late.name} ends behind {numbers.horizon}, up to which the hours of what it needs are known")
-    return Violation(ViolationKind.START, (), None, None, f"the project must start at 0, and starts at {one.numbers[0]}")
+    text = f"the project must start at 0, and starts at {one.numbers[0]}"
+    return Violation(ViolationKind.START, (), None, None, text)
 
 
 def part_of(project: Parts, kind: Kind, place: int) -> Resource | Lag | Absence:
@@ -455,8 +465,9 @@ def answer_from(project: Parts, told: Mapping[str, object]) -> tuple[Question, K
                   conflicts=whole(told["conflicts"], "the conflicts", 0, 10**18))
     if starts is not None:
         must_be_a(Mapping, starts, "a mapping from activities to starts")
-        found = feasible(asked, starts)  # type: ignore[arg-type]
+        found = feasible_starts(asked, starts)  # type: ignore[arg-type]
         known = replace(known, starts=found, value=found[-1])
     if known.status() != told["status"]:
-        raise BadInput(f"the status is {short(repr(told['status']))}, and by its starts and its bound it is '{known.status()}'")
-    return asked, known, number(told["seconds"], "seconds", -1, 10**9)
+        raise BadInput(f"the status is {short(repr(told['status']))}, and by its starts and its bound it is "
+                       f"'{known.status()}'")
+    return asked, known, real(told["seconds"], "seconds", -1, 10**9)

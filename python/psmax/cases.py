@@ -51,7 +51,8 @@ class Case:
         """Forgets cases that prove no more than the one they were split from, for want of time."""
         for case in reversed([*self.all()]):
             if case.cases:
-                least = min(one.bound for one in case.cases) if all(one.record is not None for one in case.cases) else -math.inf
+                are_proved = all(one.record is not None for one in case.cases)
+                least = min(one.bound for one in case.cases) if are_proved else -math.inf
                 if least < case.bound:
                     case.split, case.cases = None, []
                 case.bound = max(case.bound, least)

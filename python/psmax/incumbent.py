@@ -54,7 +54,8 @@ class Incumbent:
 
     def put(self, starts: tuple[int, ...] | None, bound: int | None) -> None:
         """Keeps the bound, and the starts where they are shorter. The record of another bound goes."""
-        before, is_shorter = self.known, starts is not None and (self.known.value is None or starts[-1] < self.known.value)
+        before = self.known
+        is_shorter = starts is not None and (before.value is None or starts[-1] < before.value)
         self.known = replace(before, bound=bound, record=before.record if bound == before.bound else None)
         if starts is not None and is_shorter:
             self.known = replace(self.known, value=starts[-1], starts=starts)

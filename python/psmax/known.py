@@ -12,7 +12,8 @@ ODD = (ValueError, LookupError, TypeError)
 
 @dataclass(frozen=True)
 class Known:
-    """The least value of what is minimized that was found, with its starts, and a bound; none where there is no schedule."""
+    """The least value of what is minimized that was found, with its starts, and a bound; none where there is no
+    schedule."""
 
     goal: Goal
     value: int | None = None
@@ -73,8 +74,8 @@ def of_report(line: str, spelled: ProjectText) -> Known:
 
 
 def known_starts(told: Sequence[int], spelled: ProjectText) -> tuple[int, ...] | None:
-    """The starts of the project; none where something needs a resource when its hours are not known any more. A bound that the
-    program proves is one all the same, since the text leaves more schedules than there are."""
+    """The starts of the project; none where something needs a resource when its hours are not known any more. A bound
+    that the program proves is one all the same, since the text leaves more schedules than there are."""
     starts = spelled.outward(tuple(told))
     return None if spelled.project.beyond(starts) else starts
 

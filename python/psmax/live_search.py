@@ -18,15 +18,16 @@ MOST_WAITING = 100  # of what is told that nobody has heard yet; the oldest goes
 
 
 class Search:
-    """A search that goes on: a context manager that ends it, an iterator of `Progress`, and an awaitable of its `Answer`.
+    """A search that goes on: a context manager that ends it, an iterator of `Progress`, and an awaitable of its
+    `Answer`.
 
     with project.search(seconds=60) as search:
         for told in search:
             print(told)
     answer = search.result()
 
-    Under asyncio `async with`, `async for` and `await search` do the same. A task that is cancelled cancels the search. One
-    iterator hears each progress once."""
+    Under asyncio `async with`, `async for` and `await search` do the same. A task that is cancelled cancels the search.
+    One iterator hears each progress once."""
 
     def __init__(self, question: Question, best: Incumbent, work: Callable[[], None], keep: Callable[[Known], Known],
                  is_enough: Callable[[Progress], object]) -> None:
@@ -46,8 +47,8 @@ class Search:
         return self._best.clock
 
     def cancel(self) -> None:
-        """Ends the search at once, from any thread. What is known then is the answer; if psprove does not end within 0.1
-        seconds it is killed, and the answer has no record."""
+        """Ends the search at once, from any thread. What is known then is the answer; if psprove does not end within
+        0.1 seconds it is killed, and the answer has no record."""
         self.clock.cancel()
 
     def stop(self) -> None:
@@ -64,8 +65,8 @@ class Search:
         return not self._thread.is_alive()
 
     def result(self, timeout: float | None = None) -> Answer:
-        """The answer, once the search has ended. TimeoutError where it goes on after so many seconds. What went wrong in it, or
-        in `until`, is raised."""
+        """The answer, once the search has ended. TimeoutError where it goes on after so many seconds. What went wrong
+        in it, or in `until`, is raised."""
         if not self.wait(timeout):
             raise TimeoutError(f"the search goes on after {timeout:g} seconds")
         if self._fault is not None:
@@ -87,7 +88,8 @@ class Search:
     def __enter__(self) -> Self:
         return self
 
-    def __exit__(self, kind: type[BaseException] | None, fault: BaseException | None, trace: TracebackType | None) -> None:
+    def __exit__(self, kind: type[BaseException] | None, fault: BaseException | None,
+                 trace: TracebackType | None) -> None:
         self.cancel()
         self._thread.join()
 

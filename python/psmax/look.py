@@ -16,7 +16,7 @@ if TYPE_CHECKING:
 MOST_ROWS = 60  # of a table in a notebook
 
 
-def rows(schedule: "Schedule", floats: "Mapping[Activity, Float] | None") -> list[dict[str, object]]:
+def rows_of(schedule: "Schedule", floats: "Mapping[Activity, Float] | None") -> list[dict[str, object]]:
     """A row for each activity, in the order of their starts."""
     from .planner.window import windows
     asked, found = schedule.question, list[dict[str, object]]()
@@ -35,25 +35,29 @@ def rows(schedule: "Schedule", floats: "Mapping[Activity, Float] | None") -> lis
     return found
 
 
-def chart(schedule: "Schedule", title: str) -> str:
-    """A picture in SVG."""
+def chart(answer: "Answer") -> str:
+    """A picture in SVG, below what `plan` says first of the answer."""
     from .planner import drawing, svg
-    return svg.draw(drawing.make(opened(schedule.question), schedule.starts, title))
+    from .planner.headline import headline
+    opened = as_file(answer.question)
+    title, *more = headline(opened, answer.known)
+    return svg.draw(drawing.make(opened, answer.must_have_schedule().starts, title, tuple(more)))
 
 
-def opened(asked: "Question") -> "ProjectFile":
+def as_file(asked: "Question") -> "ProjectFile":
     """The project as `plan` has one that it opened."""
     from .planner.names import Names
     from .planner.project_file import ProjectFile
     from .planner.settings import Settings
     project, unit = asked.project, "" if asked.project.calendar is None else asked.project.calendar.period
     is_same = asked.activities == (*project.activities,)
-    names = Names({number: one.name for number, one in enumerate(asked.activities, 1)}, [one.name for one in project.resources],
-                  unit, ids=project.ids if is_same else {})
-    return ProjectFile("the project", asked.numbers, names, Settings(), asked.calendar, {}, parts=project if is_same else None)
+    activities = {number: one.name for number, one in enumerate(asked.activities, 1)}
+    names = Names(activities, [one.name for one in project.resources], unit, ids=project.ids if is_same else {})
+    parts = project if is_same else None
+    return ProjectFile("the project", asked.numbers, names, Settings(), asked.calendar, {}, parts=parts)
 
 
-def picture(answer: "Answer") -> str:
+def chart_html(answer: "Answer") -> str:
     """What a notebook shows of an answer. The picture has its styles for itself."""
     if answer.schedule is None:
         return f"<p>{escape(f'{answer}')}</p>"
@@ -61,7 +65,7 @@ def picture(answer: "Answer") -> str:
     return f'<img alt="{escape(f"{answer}")}" src="data:image/svg+xml;base64,{data}" />'
 
 
-def table(project: Parts) -> str:
+def table_html(project: Parts) -> str:
     """What a notebook shows of a project: its activities, and what they need."""
     heads = ["activity", "duration", *(f"{one.name}, {one.capacity}" for one in project.resources), "due"]
     lines = [in_row("th", heads)]

@@ -6,10 +6,8 @@ from typing import Any, TypeVar
 from .crew_hours import SPANS, Crews, Hours, with_hours
 from .errors import BadInput, UnknownName, WrongType
 from .letters import short
-from .periods import Time, behind, end_of, length_of, touched_by, whole
-from .project import MOST_ACTIVITIES, MOST_ARCS, MOST_RESOURCES, MOST_UNITS, Arc, Goal
-from .project import Absence as AbsenceOfNumbers
-from .project import Numbers
+from .periods import Time, time_behind, last_time, length_of, touched_by, whole
+from .project import MOST_ACTIVITIES, MOST_ARCS, MOST_RESOURCES, MOST_UNITS, Arc, Away, Goal, Numbers
 from .work_time import WorkTime
 
 
@@ -32,8 +30,8 @@ class Resource:
 
 @dataclass(eq=False)
 class Activity:
-    """Takes so many periods without a break, and so many units of each resource meanwhile. A new `duration`, new `demands`
-    and a new `due` are checked as `Project.activity` does; the name stays."""
+    """Takes so many periods without a break, and so many units of each resource meanwhile. A new `duration`, new
+    `demands` and a new `due` are checked as `Project.activity` does; the name stays."""
 
     name: str
     duration: int
@@ -106,8 +104,9 @@ class Group:
 
 
 class Parts:
-    """The resources, activities, lags and absences of a project. Names are unique, and none is empty. It is a collection of its
-    activities: `len(project)`, `for activity in project`, `"dig" in project`, `project["dig"]` and `del project["dig"]`."""
+    """The resources, activities, lags and absences of a project. Names are unique, and none is empty. It is a
+    collection of its activities: `len(project)`, `for activity in project`, `"dig" in project`, `project["dig"]` and
+    `del project["dig"]`."""
 
     def __init__(self, name: str = "") -> None:
         self.name = name
@@ -155,8 +154,8 @@ class Parts:
         return self._sink.start
 
     def resource(self, name: str, capacity: int) -> Resource:
-        """A new resource, with 0 to 1,000,000 units. BadInput where the name is not new or can't be printed, or there are 32
-        resources already."""
+        """A new resource, with 0 to 1,000,000 units. BadInput where the name is not new or can't be printed, or there
+        are 32 resources already."""
         must_be_new(name, {one.name for one in self.resources}, "resource")
         must_be_room(self.resources, MOST_RESOURCES, "resources")
         made = Resource(name, whole(capacity, f"the capacity of {name}"), len(self.resources), self)
@@ -165,9 +164,10 @@ class Parts:
 
     def activity(self, name: str, duration: int | str, demands: Mapping[Resource, int] | None = None,
                  due: Time | None = None) -> Activity:
-        """A new activity. The duration is 0 to 1,000,000 whole periods, or where the project has a calendar a length such as
-        '1,5 d'. `demands` has units by resource. `due` is the time by which it should have ended, or a date, at whose end.
-        BadInput where the name is not new, something is out of range, or there are 1,000 activities already."""
+        """A new activity. The duration is 0 to 1,000,000 whole periods, or where the project has a calendar a length
+        such as '1,5 d'. `demands` has units by resource. `due` is the time by which it should have ended, or a date, at
+        whose end. BadInput where the name is not new, something is out of range, or there are 1,000 activities
+        already."""
         must_be_new(name, self._named, "activity")
         must_be_room(self.activities, MOST_ACTIVITIES, "activities")
         told = {"duration": duration, "demands": {} if demands is None else demands, "due": due}
@@ -177,10 +177,11 @@ class Parts:
         self._named[name] = made
         return made
 
-    def lag(self, before: Point, after: Point, *, at_least: int | str | None = None, at_most: int | str | None = None) -> Lag:
-        """A new lag: from one point to another at least and at most so many periods pass, each from -1,000,000 to 1,000,000, or
-        a length such as '2 d'. A point is the start or the end of an activity or of the project. BadInput where no limit is
-        said, or a point is none of this project."""
+    def lag(self, before: Point, after: Point, *, at_least: int | str | None = None,
+            at_most: int | str | None = None) -> Lag:
+        """A new lag: from one point to another at least and at most so many periods pass, each from -1,000,000 to
+        1,000,000, or a length such as '2 d'. A point is the start or the end of an activity or of the project. BadInput
+        where no limit is said, or a point is none of this project."""
         for point in (before, after):
             must_be_a(Point, point, "a start or an end")
             self.number(point.activity)
@@ -194,12 +195,14 @@ class Parts:
         return made
 
     def absence(self, resource: Resource, begins: Time, ends: Time | None = None, units: int | None = None) -> Absence:
-        """Units of a resource that are away from one time until another, or from a first day to a last one; without `ends` for
-        ever, and without `units` all of them. BadInput where it ends before it begins, or more are away than there are."""
+        """Units of a resource that are away from one time until another, or from a first day to a last one; without
+        `ends` for ever, and without `units` all of them. BadInput where it ends before it begins, or more are away than
+        there are."""
         self._own(resource)
         away = None if units is None else whole(units, f"what is away of {resource.name}", 1, resource.capacity)
         first = touched_by(begins, f"when {resource.name} is away", self.calendar)
-        last = None if ends is None else behind(ends, f"until when {resource.name} is away", self.calendar, first + 1)
+        until = f"until when {resource.name} is away"
+        last = None if ends is None else time_behind(ends, until, self.calendar, first + 1)
         made = Absence(resource, first, last, away)
         must_be_there([*(one for one in self.absences if one.resource is resource), made])
         self.absences.append(made)
@@ -235,24 +238,24 @@ class Parts:
         self.groups = [left for left in (group.without(number) for group in self.groups) if left.activities]
         vars(gone)["project"] = None
 
-    def _checked_of_activity(self, name: str, key: str, value: object) -> Any:
+    def _checked_of_activity(self, name: str, key: str, value: Any) -> Any:
         """What a field of an activity becomes."""
         if key == "duration":
             return length_of(value, f"the duration of {name}", self.calendar)
         if key == "due":
-            return None if value is None else end_of(value, f"when {name} is due", self.calendar)  # type: ignore[arg-type]
+            return None if value is None else last_time(value, f"when {name} is due", self.calendar)
         if key == "demands":
             must_be_a(Mapping, value, "a mapping from resources to demands")
             return {self._own(resource): whole(units, f"the demand of {name} for {resource.name}")
-                    for resource, units in value.items()}  # type: ignore[attr-defined]
+                    for resource, units in value.items()}
         raise AttributeError(f"the {key} of an activity stays as it is")
 
     def _checked_of_resource(self, one: Resource, key: str, value: object) -> int:
         """What a field of a resource becomes. Where fewer are there than are away, nothing does."""
         if key != "capacity":
             raise AttributeError(f"the {key} of a resource stays as it is")
-        units, absences = whole(value, f"the capacity of {one.name}"), [each for each in self.absences if each.resource is one]
-        must_be_there([replace(each, away=units if each.away is None else each.away) for each in absences], units)
+        units, own = whole(value, f"the capacity of {one.name}"), [each for each in self.absences if each.resource is one]
+        must_be_there([replace(each, away=units if each.away is None else each.away) for each in own], units)
         return units
 
     def number(self, activity: Activity) -> int:
@@ -302,8 +305,7 @@ class Parts:
             self._must_have_lateness()
         found = Numbers(
             (0, *(one.duration for one in self.activities), 0), tuple(rows), tuple(one.capacity for one in self.resources),
-            tuple(arcs), tuple(AbsenceOfNumbers(one.resource.number, one.begins, one.ends, one.units) for one in self.absences),
-            due, goal)
+            tuple(arcs), tuple(Away(one.resource.number, one.begins, one.ends, one.units) for one in self.absences), due, goal)
         crews = self.crews()
         return found if crews is None else with_hours(found, crews, None)
 
@@ -317,7 +319,8 @@ class Parts:
         """The resources with hours of their own; none where there is no such resource."""
         if not self.hours or self.calendar is None:
             return None
-        return Crews({one.number: hours for one, hours in self.hours.items()}, self.calendar.calendar(), self.status or 0)
+        hours = {one.number: own for one, own in self.hours.items()}
+        return Crews(hours, self.calendar.calendar(), self.status or 0)
 
 
 def goal_of(minimize: str) -> Goal:

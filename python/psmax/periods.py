@@ -40,39 +40,40 @@ def length_of(value: object, what: str, work_time: WorkTime | None, least: int =
     except BadInput:
         raise
     except ValueError:
-        raise BadInput(f"{what}: {short(repr(value))} is no whole number of periods, which are {period}, such as '2 d' or "
-                       "'4 h'") from None
+        raise BadInput(f"{what}: {short(repr(value))} is no whole number of periods, which are {period}, such as '2 d' "
+                       "or '4 h'") from None
 
 
-def begin_of(value: Time, what: str, work_time: WorkTime | None, least: int = 0) -> int:
+def first_time(value: Time, what: str, work_time: WorkTime | None, least: int = 0) -> int:
     """A time, or the first one that is not before a date."""
     if not isinstance(value, (str, datetime.date)):
         return whole(value, what, least)
-    return whole(calendar_of(what, value, work_time).calendar().from_on(moment_of(value, what).at), what, least)
+    return whole(must_have_calendar(what, value, work_time).calendar().from_on(moment_of(value, what).at), what, least)
 
 
 def touched_by(value: Time, what: str, work_time: WorkTime | None) -> int:
     """A time, or that of the period in which a moment is."""
     if not isinstance(value, (str, datetime.date)):
         return whole(value, what)
-    return max(0, calendar_of(what, value, work_time).calendar().by(moment_of(value, what).at))
+    return max(0, must_have_calendar(what, value, work_time).calendar().by(moment_of(value, what).at))
 
 
-def end_of(value: Time, what: str, work_time: WorkTime | None, least: int = 0) -> int:
+def last_time(value: Time, what: str, work_time: WorkTime | None, least: int = 0) -> int:
     """A time, or the last one at which all has ended by a moment, or within a day."""
     if not isinstance(value, (str, datetime.date)):
         return whole(value, what, least)
-    return whole(calendar_of(what, value, work_time).calendar().by(moment_of(value, what).next()), what, least)
+    return whole(must_have_calendar(what, value, work_time).calendar().by(moment_of(value, what).next()), what, least)
 
 
-def behind(value: Time, what: str, work_time: WorkTime | None, least: int = 0) -> int:
+def time_behind(value: Time, what: str, work_time: WorkTime | None, least: int = 0) -> int:
     """A time, or the first one behind a moment or a day."""
     if not isinstance(value, (str, datetime.date)):
         return whole(value, what, least)
-    return whole(calendar_of(what, value, work_time).calendar().from_on(moment_of(value, what).next()), what, least)
+    calendar = must_have_calendar(what, value, work_time).calendar()
+    return whole(calendar.from_on(moment_of(value, what).next()), what, least)
 
 
-def calendar_of(what: str, value: object, work_time: WorkTime | None) -> WorkTime:
+def must_have_calendar(what: str, value: object, work_time: WorkTime | None) -> WorkTime:
     if work_time is None:
         raise BadInput(f"{what}: the date {short(str(value))} needs the project's calendar")
     return work_time

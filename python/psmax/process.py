@@ -28,10 +28,12 @@ def tied(words: Sequence[str]) -> list[str]:
 
 
 class Process:
-    """A program that runs until it has ended by itself, or until there is the file by which it is asked to. It is killed where
-    it takes no such file, or doesn't end in time. The system says when something has come: nothing is polled."""
+    """A program that runs until it has ended by itself, or until there is the file by which it is asked to. It is
+    killed where it takes no such file, or doesn't end in time. The system says when something has come: nothing is
+    polled."""
 
-    def __init__(self, words: Sequence[str], source: IO[bytes], out: IO[bytes], until: str | None, clock: Clock) -> None:
+    def __init__(self, words: Sequence[str], source: IO[bytes], out: IO[bytes], until: str | None,
+                 clock: Clock) -> None:
         self.out, self.until, self.clock = out, until, clock
         self.told, end = os.pipe()
         try:
@@ -51,8 +53,8 @@ class Process:
         self.is_left = False  # since Python ends, and the thread that waits with it
 
     def run(self, end: float, hear: Callable[[str], None]) -> bool:
-        """Hears its lines as they come, until the end by the system's clock. Whether it has ended by itself, or when it was
-        asked to."""
+        """Hears its lines as they come, until the end by the system's clock. Whether it has ended by itself, or when it
+        was asked to."""
         places = select.poll()
         for place in (self.told, self.woken, *self.ended):
             places.register(place, select.POLLIN)
@@ -91,8 +93,8 @@ class Process:
             threading.Event().wait()
 
     def patience(self, end: float) -> float:
-        """Seconds until there is something to do where nothing comes. The clock may have been stopped before anybody could be
-        woken."""
+        """Seconds until there is something to do where nothing comes. The clock may have been stopped before anybody
+        could be woken."""
         if self.asked is None and self.clock.stopped:
             return 0.0
         until = end if self.asked is None else self.asked + self.seconds_to_end()
@@ -144,7 +146,8 @@ class Process:
 
 
 def open_pidfd(pid: int) -> list[int]:
-    """What says that a process has ended; nothing on a system that has no such thing, where the end of what it tells does."""
+    """What says that a process has ended; nothing on a system that has no such thing, where the end of what it tells
+    does."""
     try:
         return [os.pidfd_open(pid)]
     except OSError:

@@ -58,8 +58,8 @@ def given_file(given: Given) -> Iterator[IO[bytes]]:
 
 
 class Program:
-    """Calls one of the programs until the clock is stopped. `project` is what its project is called in faults. Records lie in
-    the folder, where one is named, while they are written."""
+    """Calls one of the programs until the clock is stopped. `project` is what its project is called in faults. Records
+    lie in the folder, where one is named, while they are written."""
 
     name: str
 
@@ -76,8 +76,8 @@ class Program:
 
     def call(self, arguments: Sequence[str], given: Given, seconds: float = SECONDS,
              hear: Callable[[str], None] = lambda line: None, until: str | None = None) -> tuple[int, bytes]:
-        """The exit status of a call that answered within these seconds, and its output, or else the last that it told. Each
-        line that it tells is heard, and one of JSON is no fault. The file `until` asks it to end."""
+        """The exit status of a call that answered within these seconds, and its output, or else the last that it told.
+        Each line that it tells is heard, and one of JSON is no fault. The file `until` asks it to end."""
         lines: deque[str] = deque(maxlen=MOST_LINES)
 
         def told(line: str) -> None:
@@ -122,7 +122,8 @@ class Program:
             return running.child.returncode, out.read()
 
     @contextmanager
-    def _started(self, arguments: Sequence[str], source: IO[bytes], out: IO[bytes], until: str | None) -> Iterator[Process]:
+    def _started(self, arguments: Sequence[str], source: IO[bytes], out: IO[bytes],
+                 until: str | None) -> Iterator[Process]:
         """The program, which has ended behind this, whatever comes between."""
         try:
             running = Process([self.path, *arguments], source, out, until, self.clock)

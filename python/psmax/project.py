@@ -23,7 +23,7 @@ class Arc(NamedTuple):
     lag: int
 
 
-class Absence(NamedTuple):
+class Away(NamedTuple):
     """Units of a resource that are away from one time until another; until ever where there is none."""
 
     resource: int
@@ -73,7 +73,7 @@ class Numbers:
     demands: tuple[tuple[int, ...], ...]
     capacities: tuple[int, ...]
     arcs: tuple[Arc, ...]
-    absences: tuple[Absence, ...] = ()
+    absences: tuple[Away, ...] = ()
     due: Mapping[int, int] = field(default_factory=dict)  # when activities should have ended
     goal: Goal = Goal.MAKESPAN
     dated: tuple["DatedLag", ...] = ()  # what some of the arcs, which every date allows, are on each date
@@ -126,7 +126,7 @@ class Numbers:
         return sum(one.units for one in self.absences if one.resource == resource and one.begins <= time
                    and (one.ends is None or time < one.ends))
 
-    def all_absences(self) -> tuple[Absence, ...]:
+    def all_absences(self) -> tuple[Away, ...]:
         """The absences, and behind them what else is away outside the hours of resources."""
         if not self.off:
             return self.absences
@@ -135,10 +135,10 @@ class Numbers:
             marks.setdefault(one.resource, []).extend(time for time in (one.begins, one.ends) if time is not None)
         return (*self.absences, *(part for off in self.off for part in self.left_of(off, marks.get(off.resource, []))))
 
-    def left_of(self, off: Off, marks: Sequence[int]) -> list[Absence]:
+    def left_of(self, off: Off, marks: Sequence[int]) -> list[Away]:
         """What is away for a time outside of hours, besides absences, which change at these marks."""
         times = [off.begins, *sorted({time for time in marks if off.begins < time < off.ends}), off.ends]
-        parts = [Absence(off.resource, begins, ends, self.capacities[off.resource] - self.absent(off.resource, begins))
+        parts = [Away(off.resource, begins, ends, self.capacities[off.resource] - self.absent(off.resource, begins))
                  for begins, ends in zip(times, times[1:])]
         return [one for one in parts if one.units]
 

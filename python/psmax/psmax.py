@@ -15,14 +15,14 @@ from .record_file import new_file
 
 
 @dataclass(frozen=True)
-class Checked:
+class Judgement:
     """What is minimized where the starts are a feasible schedule, and otherwise every violation."""
 
     value: int | None
-    violations: tuple["Violation", ...]
+    violations: tuple["Breach", ...]
 
 
-class Violation(NamedTuple):
+class Breach(NamedTuple):
     """A start of activity 0 that isn't 0; a lag that isn't kept, as its arc; one in calendar days, by its place; an overload: a
     time, a resource, a use; or an activity that ends when the hours of a resource are not known any more."""
 
@@ -69,36 +69,36 @@ class Psmax(Program):
             except ODD:
                 raise self.odd("solve") from None
 
-    def check(self, project: Numbers, starts: tuple[int, ...]) -> Checked:
+    def check(self, project: Numbers, starts: tuple[int, ...]) -> Judgement:
         """What psmax says of the starts. Whatever is minimized, a schedule is feasible by its lags and resources. Lags in
         calendar days are kept or not by their dates."""
         if project.horizon is not None:
             known = self.check(replace(project, horizon=None), starts)
-            late = [Violation("horizon", (activity,)) for activity in project.beyond(starts)]
-            return Checked(None, (*known.violations, *late)) if late else known
+            late = [Breach("horizon", (activity,)) for activity in project.beyond(starts)]
+            return Judgement(None, (*known.violations, *late)) if late else known
         if project.dated:
             known = self.check(replace(project, dated=()), starts)
-            late = [Violation("dated", (place,)) for place, one in enumerate(project.dated) if one.slack(starts) < 0]
+            late = [Breach("dated", (place,)) for place, one in enumerate(project.dated) if one.slack(starts) < 0]
             arcs = {project.dated[one.numbers[0]].arc for one in late}
             rest = [one for one in known.violations if one.kind != "lag" or Arc(*one.numbers) not in arcs]
-            return Checked(None, (*rest, *late)) if late else known
+            return Judgement(None, (*rest, *late)) if late else known
         if project.goal is Goal.LATENESS:
             known = self.check(replace(project, goal=Goal.MAKESPAN), project.plain(starts))
-            return known if known.value is None else Checked(starts[-1], ())
+            return known if known.value is None else Judgement(starts[-1], ())
         if self.asked is None or self.asked.project != project:
             self.asked = ProjectText(project)
         spelled = self.asked
         status, out = self.judge("check", spelled.text, starts_text(spelled.inward(starts)))
         found = re.fullmatch(rb"feasible (-?\d+)\n", out)
         if status == 0 and found is not None:
-            return Checked(starts[-1], ())
+            return Judgement(starts[-1], ())
         if status == 4 and out:
             lines = out.decode("utf-8", "replace").splitlines()
-            return Checked(None, tuple(violation(line, spelled) for line in lines))
+            return Judgement(None, tuple(violation(line, spelled) for line in lines))
         raise self.odd("check")
 
 
-def violation(line: str, spelled: ProjectText) -> Violation:
+def violation(line: str, spelled: ProjectText) -> Breach:
     """A line of `check`, in the numbers of the project."""
     found = re.fullmatch(r"(start|lag|overload)((?: -?\d+)+)", line)
     numbers = tuple(int(word) for word in found[2].split()) if found else ()
@@ -108,7 +108,7 @@ def violation(line: str, spelled: ProjectText) -> Violation:
         tail, head, lag = numbers
         lag += (spelled.offset if tail == spelled.end else 0) - (spelled.offset if head == spelled.end else 0)
         numbers = (spelled.shown(tail), spelled.shown(head), lag)
-    return Violation(found[1], numbers)
+    return Breach(found[1], numbers)
 
 
 def starts_text(starts: Sequence[int], first: str = "") -> bytes:

@@ -35,8 +35,8 @@ class Limits:
     is_recorded: bool = True
 
     def arguments(self) -> list[str]:
-        told = {"--seconds": math.ceil(self.seconds), "--jobs": self.jobs, "--conflicts": self.conflicts, "--seed": self.seed,
-                "--memory": self.memory, "--resume": self.resume}
+        told = {"--seconds": math.ceil(self.seconds), "--jobs": self.jobs, "--conflicts": self.conflicts,
+                "--seed": self.seed, "--memory": self.memory, "--resume": self.resume}
         return [word for option, value in told.items() if value is not None for word in (option, f"{value}")]
 
     def are_over(self) -> bool:
@@ -73,8 +73,8 @@ class Psprove(Program):
             text, first, end = (os.path.join(folder, name) for name in ("project", "start", "end"))
             with open(text, "wb") as file:
                 file.write(spelled.text)
-            arguments = ["solve", "--json", "--progress", "json", *limits.arguments(), "--until", end, "--project", text,
-                         "--follow", *([] if record is None else ["--record", record.path])]
+            arguments = ["solve", "--json", "--progress", "json", *limits.arguments(), "--until", end, "--project",
+                         text, "--follow", *([] if record is None else ["--record", record.path])]
             if limits.below is not None:
                 arguments += ["--below", f"{limits.below + spelled.offset}"]
             if start is not None and spelled.has(start):

@@ -11,7 +11,8 @@ CHUNK = 1 << 20  # bytes that are read at once
 
 
 class RecordFile:
-    """A file with a record. One that a search wrote goes once nobody needs it any more, unless it is kept under a name."""
+    """A file with a record. One that a search wrote goes once nobody needs it any more, unless it is kept under a
+    name."""
 
     def __init__(self, path: str, is_ours: bool = False) -> None:
         self.path = path

@@ -36,7 +36,7 @@ class WorkTime:
             value = getattr(self, name)
             if not isinstance(value, str) and (value is not None or name == "period"):
                 raise WrongType(f"{name}: {short(repr(value))} is no text")
-        object.__setattr__(self, "first", text_of(self.first))
+        object.__setattr__(self, "first", first_text(self.first))
         object.__setattr__(self, "holidays", self.free_days)
         must_be_period(self.period)
         try:
@@ -57,11 +57,12 @@ class WorkTime:
 
     def calendar(self) -> Calendar:
         """The dates of the periods."""
-        return calendar_of(self.begin, self.period, self.workdays, frozenset(self.free_days), self.shift, self.zone)
+        days = frozenset(self.free_days)
+        return dates_of_periods(self.begin, self.period, self.workdays, days, self.shift, self.zone)
 
 
-def calendar_of(begin: str, period: str, days_of_work: str | None, holidays: frozenset[datetime.date], hours: str | None,
-                place: str | None, order: str | None = None) -> Calendar:
+def dates_of_periods(begin: str, period: str, days_of_work: str | None, holidays: frozenset[datetime.date],
+                     hours: str | None, place: str | None, order: str | None = None) -> Calendar:
     """The dates of periods. `order` is that of numbers between slashes in dates."""
     first, where = moment(begin, "from", order).at, zone(place)
     minutes = minutes_of(period)
@@ -77,7 +78,7 @@ def calendar_of(begin: str, period: str, days_of_work: str | None, holidays: fro
     return days if minutes >= MINUTES["days"] else Shifts(first, minutes, days, shift(hours, minutes))
 
 
-def text_of(first: object) -> str:
+def first_text(first: object) -> str:
     if isinstance(first, datetime.datetime):
         return first.isoformat(" ", "minutes")
     if not isinstance(first, (str, datetime.date)):

@@ -26,12 +26,14 @@ def dated(calendar: psmax.WorkTime) -> psmax.Project:
 class Collection(InFolder):
     def test_reading(self) -> None:
         made, dig, lift = site()
-        self.assertEqual((len(made), [*made], made["dig"], "dig" in made, dig in made), (2, [dig, lift], dig, True, True))
+        self.assertEqual((len(made), [*made], made["dig"]), (2, [dig, lift], dig))
+        self.assertTrue("dig" in made and dig in made)
         self.assertEqual(("gone" in made, site()[1] in made, len(psmax.Project())), (False, False, 0))
         self.assertEqual((psmax.Status.OPTIMAL, f"{psmax.Goal.LATENESS}"), ("optimal", "lateness"))
 
     def test_a_change(self) -> None:
-        """A longer dig; a paint beside which four do nothing else, and seven do; and no dig, with which its lag goes."""
+        """A longer dig; a paint beside which four do nothing else, and seven do; and no dig, with which its lag
+        goes."""
         made, dig, lift = site()
         before = made.solve(10, 1)
         dig.duration = 5
@@ -92,7 +94,7 @@ class Collection(InFolder):
             (lambda: psmax.WorkTime("2026-13-02"), ValueError, "from 2026-13-02: there is no such date"),
             (lambda: psmax.WorkTime(MONDAY, workdays="mon-fry"), ValueError, "workdays mon-fry: not days such as"),
             (lambda: psmax.WorkTime(MONDAY, period=odd), TypeError, "period: None is no text"),
-            (lambda: psmax.WorkTime(MONDAY, holidays="2026-03-05"), TypeError, "holidays: '2026-03-05' is no list of dates"),
+            (lambda: psmax.WorkTime(MONDAY, holidays="2026-03-05"), TypeError, "holidays: '2026-03-05' is no list"),
             (lambda: psmax.WorkTime("9999-12-31", workdays="mon"), ValueError, "'first' is beyond the years 1 to 9999"),
             (lambda: psmax.Project.read(odd), TypeError, "'None' is not a path or a text"),
             (lambda: psmax.Project.from_dict({}), ValueError, "the project has no key 'activities'"),
@@ -109,9 +111,9 @@ class Collection(InFolder):
 
 class Dates(InFolder):
     def test_starts_and_ends(self) -> None:
-        """Three days from Monday on, a day between, and Thursday is off: the lift begins on Monday; in two hours a day has
-        four, and the lift begins at ten on Tuesday, behind four of them and one more."""
-        cases = [(WEEK, (FRIDAY.replace(day=2), FRIDAY.replace(day=4)), (datetime.date(2026, 3, 9), datetime.date(2026, 3, 10))),
+        """Three days from Monday on, a day between, and Thursday is off: the lift begins on Monday; in two hours a day
+        has four, and the lift begins at ten on Tuesday, behind four of them and one more."""
+        cases = [(WEEK, (MONDAY, FRIDAY.replace(day=4)), (FRIDAY.replace(day=9), FRIDAY.replace(day=10))),
                  (SHIFT, (datetime.datetime(2026, 3, 2, 8), datetime.datetime(2026, 3, 2, 15)),
                   (datetime.datetime(2026, 3, 3, 8), datetime.datetime(2026, 3, 3, 12)))]
         for calendar, dig, lift in cases:
@@ -123,20 +125,24 @@ class Dates(InFolder):
     def test_lengths(self) -> None:
         """In periods of two hours a day has four, and a week 20."""
         made = dated(SHIFT)
-        for text, periods in (("1,5 d", 6), ("1.5 d", 6), ("4 h", 2), ("120 min", 1), ("1 w", 20), ("3", 3), (7, 7), ("0 d", 0)):
+        cases: list[tuple[int | str, int]] = [
+            ("1,5 d", 6), ("1.5 d", 6), ("4 h", 2), ("120 min", 1), ("1 w", 20), ("3", 3), (7, 7), ("0 d", 0)]
+        for text, periods in cases:
             with self.subTest(text):
                 self.assertEqual(made.activity(f"a {text}", text).duration, periods)
         lag = made.lag(made["dig"].end, made["lift"].end, at_least="1 d", at_most="2 d")
         self.assertEqual((lag.at_least, lag.at_most), (4, 8))
-        for text, wanted in (("3 h", "is no whole number of periods, which are 2 hours"), ("x", "is no whole number"),
-                             ("2 cd", "is no whole number"), ("-1 d", "-4 is not a whole number from 0")):
-            with self.subTest(text), self.assertRaisesRegex(ValueError, wanted):
-                made.activity("b", text)
+        for wrong, wanted in (("3 h", "is no whole number of periods, which are 2 hours"), ("x", "is no whole number"),
+                              ("2 cd", "is no whole number"), ("-1 d", "-4 is not a whole number from 0")):
+            with self.subTest(wrong), self.assertRaisesRegex(ValueError, wanted):
+                made.activity("b", wrong)
         self.assertEqual(dated(WEEK).activity("b", "2 w").duration, 10)
 
     def test_times(self) -> None:
         """A due day ends with its work, an absence has its last day, and a time is from the first work on."""
-        for day in (FRIDAY, "2026-03-06", "06.03.2026", "Fri 2026-03-06", datetime.datetime(2026, 3, 6)):
+        days: list[str | datetime.date] = [
+            FRIDAY, "2026-03-06", "06.03.2026", "Fri 2026-03-06", datetime.datetime(2026, 3, 6)]
+        for day in days:
             made = dated(WEEK)
             crane = made.resources[1]
             with self.subTest(day):
@@ -148,7 +154,8 @@ class Dates(InFolder):
         made = dated(WEEK)
         answer = made.solve(10, 1, frozen={"dig": "2026-03-03"}, now="2026-03-03")
         self.assertEqual((answer["dig"].start, answer["lift"].start_date), (1, datetime.date(2026, 3, 10)))
-        self.assertEqual((made.why(FRIDAY, 10, 1).status, made.why("2026-03-10", 10, 1).status), ("no schedule", "optimal"))
+        self.assertEqual(made.why(FRIDAY, 10, 1).status, "no schedule")
+        self.assertEqual(made.why("2026-03-10", 10, 1).status, "optimal")
 
     def test_tables(self) -> None:
         """Those of plan, by a path or as a text; what is in the way of an end a day sooner."""
@@ -173,8 +180,10 @@ class Looks(InFolder):
         paint = made.activity("paint", 1)
         answer = made.solve(10, 1, frozen={paint: 0})
         free = {"dig": 0, "paint": 5, "lift": 0}
-        rows = answer.rows({paint: psmax.Float(5, 5, True), **{made[name]: psmax.Float(0, 0, True) for name in ("dig", "lift")}})
-        self.assertEqual([*rows[0]], ["activity", "start", "end", "start_date", "end_date", "free_float", "float", "is_critical"])
+        none = psmax.Float(0, 0, True)
+        rows = answer.rows({paint: psmax.Float(5, 5, True), made["dig"]: none, made["lift"]: none})
+        heads = ["activity", "start", "end", "start_date", "end_date", "free_float", "float", "is_critical"]
+        self.assertEqual([*rows[0]], heads)
         self.assertEqual({row["activity"]: row["float"] for row in rows}, free)
         self.assertEqual([row["start_date"] for row in rows], [MONDAY, MONDAY, datetime.date(2026, 3, 9)])
         self.assertEqual([*site()[0].solve(10, 1).rows()[0]], ["activity", "start", "end", "free_float"])
@@ -189,7 +198,8 @@ class Looks(InFolder):
         found = xml.dom.minidom.parseString(answer.chart())
         texts = [one.firstChild.data for one in found.getElementsByTagName("text") if one.firstChild]
         self.assertTrue({"3 <b>\"paint\" & 'sand'</b>", "1 dig"} <= {*texts}, texts)
-        for html in (made._repr_html_(), answer._repr_html_(), made.solve(10, 1, frozen={"dig": 0, "lift": 0})._repr_html_()):
+        none = made.solve(10, 1, frozen={"dig": 0, "lift": 0})
+        for html in (made._repr_html_(), answer._repr_html_(), none._repr_html_()):
             xml.dom.minidom.parseString(f"<div>{html}</div>")
 
     def test_round_trip(self) -> None:
@@ -202,7 +212,9 @@ class Looks(InFolder):
             self.assertEqual(psmax.Answer.from_dict(project, answer.to_dict()).to_dict(), answer.to_dict())
         made, *_ = site()
         told = made.solve(10, 1).to_dict()
-        for change, wanted in (({"starts": {"dig": 0, "lift": 1}}, "not a schedule: lift starts at 1"),
-                               ({"status": "feasible"}, "by its starts and its bound it is 'optimal'")):
+        changes: list[tuple[dict[str, object], str]] = [
+            ({"starts": {"dig": 0, "lift": 1}}, "not a schedule: lift starts at 1"),
+            ({"status": "feasible"}, "by its starts and its bound it is 'optimal'")]
+        for change, wanted in changes:
             with self.assertRaisesRegex(ValueError, wanted):
                 psmax.Answer.from_dict(made, told | change)

@@ -90,7 +90,8 @@ class Options(InFolder):
         self.assertEqual(made.solve(10, 1, hint={dig: 0, lift: 0}).makespan, 6)
 
     def test_replan(self) -> None:
-        """By hand: the dig has begun at 0 and takes 5 by now, so the lift begins at 6; a new task needs the crane first."""
+        """By hand: the dig has begun at 0 and takes 5 by now, so the lift begins at 6; a new task needs the crane
+        first."""
         made, dig, lift = site()
         before = made.solve(10, 1)
         gone = made.activity("fence", 1)
@@ -121,7 +122,7 @@ class Options(InFolder):
             ({"seconds": float("nan")}, ValueError, "seconds: nan is not a number above 0"),
             ({"jobs": 1.5}, TypeError, "jobs: 1.5 is not a whole number"),
             ({"start": 7}, TypeError, "'7' is not a schedule, an answer, or a mapping"),
-            ({"start": {"dig": "2026-03-02", "lift": 4}}, ValueError, "the date 2026-03-02 needs the project's calendar"),
+            ({"start": {"dig": "2026-03-02", "lift": 4}}, ValueError, "the date 2026-03-02 needs the project"),
             ({"hint": {"gone": 1}}, KeyError, "no activity 'gone'"),
             ({"frozen": {dig: None}}, TypeError, "the start of dig: None is not a whole number"),
             ({"now": -1}, ValueError, "now: -1 is not a whole number"),

@@ -182,7 +182,8 @@ class Told(Searching):
     def test_who_is_late(self) -> None:
         """Of what nobody has heard the last hundred stay."""
         tells = [{"bound": bound} for bound in range(1, 201)]
-        with mock.patch.dict(os.environ, {"PSPROVE": self.stand_in(tells=tells, then="answers", answer={"bound": 200})}):
+        stand_in = self.stand_in(tells=tells, then="answers", answer={"bound": 200})
+        with mock.patch.dict(os.environ, {"PSPROVE": stand_in}):
             with psmax.Project.read(TWO).search(10, 1) as search:
                 search.wait()
                 heard = [one.bound for one in search]

@@ -175,7 +175,8 @@ def date(value: object) -> datetime.date:
 
 def write(project: Parts) -> str:
     """An object for each line, in the order of the project."""
-    return "{" + ",".join(f"\n{json.dumps(key)}: {in_lines(value)}" for key, value in to_dict(project).items()) + "\n}\n"
+    told = to_dict(project)
+    return "{" + ",".join(f"\n{json.dumps(key)}: {in_lines(value)}" for key, value in told.items()) + "\n}\n"
 
 
 def to_dict(project: Parts) -> dict[str, object]:

@@ -12,7 +12,7 @@ from .tool_file import Dates, dates_of, is_said
 from .xer_calendar import calendar_data, data_of
 from .xer_crews import DEPENDS
 from .xer_document import COMPLETE, ENDS, Document
-from .xer_limits import Progress
+from .xer_limits import Actuals
 from .xer_sign import MARK
 from .xer_tables import CELLS, COLUMNS, HOUR, LAST, TABLE, cell, read_tables
 
@@ -191,7 +191,7 @@ def replanned(data: bytes, schedule: Schedule) -> bytes:
 
 def times_of(document: Document, schedule: Schedule) -> dict[str, tuple[str, str]]:
     """When what has not started begins and ends; and the end of the project, by no ID."""
-    calendar, durations, starts = Progress(document).calendar, schedule.question.numbers.durations, schedule.starts
+    calendar, durations, starts = Actuals(document).calendar, schedule.question.numbers.durations, schedule.starts
     found, last = dict[str, tuple[str, str]](), ""
     for number, (uid, row) in enumerate(document.activities.items(), 1):
         start, end = starts[number], starts[number] + durations[number]

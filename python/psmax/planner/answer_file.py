@@ -10,7 +10,7 @@ from ..errors import BadInput, Failed
 from ..files import read_bytes, write_new, write_whole
 from ..incumbent import Incumbent
 from ..psmax import Psmax
-from .answer import Answer, counted, feasible, tie
+from .answer import JudgedStarts, counted, feasible, tie
 from .answer_text import AnswerText, answer_of
 from .csv_text import write_sheet
 from .project_file import ProjectFile
@@ -24,10 +24,10 @@ class AnswerFile:
         self.path = path
         self.opened = opened
         self.written: bytes | None = None  # what it holds, as far as is known
-        self.there: Answer | None = None  # the schedule that it holds, if another put it there
+        self.there: JudgedStarts | None = None  # the schedule that it holds, if another put it there
         self.before: AnswerText | None = None  # the plan of the project before it was changed, if it holds that
 
-    def look(self) -> Answer | None:
+    def look(self) -> JudgedStarts | None:
         """The schedule of this project that the file holds; psmax finds it feasible."""
         data = read_bytes(self.path) if os.path.isfile(self.path) else None
         if data is not None and data != self.written:
@@ -35,7 +35,7 @@ class AnswerFile:
         self.written = data
         return self.there if data is not None else None
 
-    def schedule_in(self, data: bytes) -> Answer | None:
+    def schedule_in(self, data: bytes) -> JudgedStarts | None:
         """What holds no starts may go, but neither what is no answer nor the starts of another project."""
         if not data.strip() or data.startswith(WITHOUT_STARTS):
             return None
@@ -55,7 +55,8 @@ class AnswerFile:
             return False
         there = self.look()
         if there is not None and there.starts[-1] < known.starts[-1]:
-            tell(best.clock, f"{self.path} holds a schedule of {known.goal.words(there.starts[-1])} by now, which stays")
+            value = known.goal.words(there.starts[-1])
+            tell(best.clock, f"{self.path} holds a schedule of {value} by now, which stays")
             return False
         data = answer_text(best, self.opened, self.path.lower().endswith(".csv"))
         if data != self.written:

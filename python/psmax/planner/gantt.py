@@ -168,6 +168,6 @@ def gantt(opened: ProjectFile, given: str | None, chart: Chart, before: str | No
         return 0
     known = judged(opened, answer, Psmax(Clock(), opened.path))
     lines = [] if known.value is None else verdict(opened, known.starts, known.value)
-    was = drawing.Known(was=baseline.read_baseline(opened, before))
+    was = drawing.Details(was=baseline.read_baseline(opened, before))
     chart.show(drawing.make(opened, known.starts, known.title(*lines[:1]), (*lines[1:], *known.violations), was))
     return 0

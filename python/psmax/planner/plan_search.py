@@ -8,8 +8,7 @@ from ..incumbent import Incumbent
 from ..known import Known
 from ..project import Arc
 from ..psmax import Psmax
-from ..psprove import Limits as ProgramLimits
-from ..psprove import STOPPED, Psprove
+from ..psprove import STOPPED, Limits, Psprove
 from ..search import search
 from ..total import TotalFloat
 from .beginning import Beginning
@@ -23,7 +22,7 @@ from .wording import Words
 
 
 @dataclass(frozen=True)
-class Limits:
+class SearchLimits:
     """Of each search, and where its record goes."""
 
     seconds: float
@@ -32,7 +31,7 @@ class Limits:
 
 
 class PlanSearch(threading.Thread):
-    def __init__(self, screen: Screen, number: int, beginning: Beginning, limits: Limits, folder: str) -> None:
+    def __init__(self, screen: Screen, number: int, beginning: Beginning, limits: SearchLimits, folder: str) -> None:
         super().__init__(daemon=True)
         self.screen, self.number, self.beginning, self.limits, self.folder = screen, number, beginning, limits, folder
         self.opened: ProjectFile = screen.plans[number].opened
@@ -79,7 +78,8 @@ class PlanSearch(threading.Thread):
         for starts, called in self.beginning.schedules:
             best.offer(starts, called)
         psprove = Psprove(self.clock, self.opened.path, self.folder)
-        search(self.beginning.project, psprove, best, ProgramLimits(self.limits.seconds, self.limits.jobs), self.beginning.old)
+        limits = Limits(self.limits.seconds, self.limits.jobs)
+        search(self.beginning.project, psprove, best, limits, self.beginning.old)
         known = best.known
         if known.value is None and not known.none and self.opened.project.horizon is not None:
             self.learn(trouble=(Words(self.opened).nothing_within(known.bound),))

@@ -28,7 +28,7 @@ from .write import rows
 
 
 @dataclass(frozen=True)
-class Schedule:
+class PlanSchedule:
     """Starts of a table's activities."""
 
     opened: ProjectFile
@@ -54,7 +54,7 @@ class Plan:
     opened: ProjectFile
     project: Numbers  # that is searched: the table's, and perhaps what stays
     at: str  # when it was read
-    before: Schedule | None
+    before: PlanSchedule | None
     shadow: tuple[int, ...]  # the starts of the plan before, as far as there are any
     known: Known
     stage: str = "searching"
@@ -66,8 +66,8 @@ class Plan:
     trouble: tuple[str, ...] = ()  # of its search
 
     @property
-    def schedule(self) -> Schedule | None:
-        return None if self.known.starts is None else Schedule(self.opened, self.known.starts)
+    def schedule(self) -> PlanSchedule | None:
+        return None if self.known.starts is None else PlanSchedule(self.opened, self.known.starts)
 
     def is_known(self) -> bool:
         """Whether there is something to show."""

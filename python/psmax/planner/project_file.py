@@ -22,7 +22,7 @@ from .columns import is_head
 from .csv_text import read_sheet
 from .answer_text import KEYS, LINE, WITH_STARTS, answer_sheet, json_object
 from .names import Names, names_in
-from .progress import Progress
+from .progress import Standing
 from .settings import Settings, calendar, checked, from_rows, time_of
 from .table import Table, read_table
 
@@ -59,8 +59,8 @@ class ProjectFile:
         return self.table.crews if self.table is not None else None
 
     @property
-    def progress(self) -> Progress:
-        return self.table.progress if self.table is not None else Progress(None)
+    def progress(self) -> Standing:
+        return self.table.progress if self.table is not None else Standing(None)
 
     @property
     def notes(self) -> tuple[str, ...]:

@@ -12,7 +12,7 @@ from ..known import Known
 from ..psmax import Psmax
 from ..psprove import Psprove
 from . import baseline
-from .answer import Answer, feasible
+from .answer import JudgedStarts, feasible
 from .answer_text import read_answer
 from .beginning import Start, begin_with
 from .floats import total_float
@@ -35,7 +35,7 @@ class Options:
     baseline: str | None = None
 
 
-def proof(answer: Answer, found: Verdict | None) -> str:
+def proof(answer: JudgedStarts, found: Verdict | None) -> str:
     """What is proved, and by whom."""
     which = answer.project.goal
     told = f"`psmax check` finds this schedule of {which.words(answer.value)} feasible: it keeps each lag and each resource. "
@@ -54,7 +54,7 @@ def digest(found: Verdict | None) -> str:
     return f"The record has {file.size():,} bytes and the SHA-256 {text}."
 
 
-def headline_of(answer: Answer, found: Verdict | None, opened: ProjectFile) -> tuple[str, ...]:
+def headline_of(answer: JudgedStarts, found: Verdict | None, opened: ProjectFile) -> tuple[str, ...]:
     """What is known of a schedule with the verdict on its record, if there is one."""
     if found is None:
         return (*verdict_line(opened, answer.starts, answer.starts[-1]),)

@@ -5,7 +5,7 @@ import threading
 from dataclasses import replace
 from typing import Any
 
-from .plans import Plan, Schedule
+from .plans import Plan, PlanSchedule
 
 MOST = 20  # plans that one can go back to
 
@@ -75,7 +75,7 @@ class Screen:
         with self.changed:
             return self.plans.get(self.shown)
 
-    def schedule(self) -> Schedule | None:
+    def schedule(self) -> PlanSchedule | None:
         """That of the plan on the screen, or of the one before where it has none."""
         plan = self.plan()
         return None if plan is None else plan.schedule or plan.before

@@ -22,7 +22,7 @@ from .faults import Faults
 from .lags import START, START_OF, WITH, Activities, Lags, Side, lengths_in, shares_in
 from .names import Names
 from .pauses import Cuts
-from .progress import Progress
+from .progress import Standing
 from .quantities import Length, Scale, Unit, read_length, scale_of, units_of
 from .rows import Row, Terms, groups, is_summary, level, told_apart
 from .settings import HOURS_OF_WORK, Settings, calendar, checked, time_of
@@ -40,7 +40,7 @@ class Table:
     calendar: Calendar | None
     groups: tuple[Group, ...]
     mornings: dict[int, list[int]]  # times at which a date says that an activity without duration may be, by activity
-    progress: Progress
+    progress: Standing
     scale: Scale
     rows: tuple[int, ...]  # in which the activities stand, as a spreadsheet numbers them
     notes: tuple[str, ...]  # what is to be said of it before anything is done with it
@@ -139,7 +139,7 @@ class Reading:
             row.must_be_below_heads()
 
     def table(self, above: Above) -> Table:
-        terms, progress = self.terms, Progress(self.time(self.settings.status, "status"))
+        terms, progress = self.terms, Standing(self.time(self.settings.status, "status"))
         crews = crews_of(terms, self.settings, progress.now or 0)
         self.named = told_apart(self.named)
         cuts = self.cut(crews)
@@ -340,7 +340,7 @@ class Reading:
         return [f"from {first}: no period begins then, so the project starts at {calendar.begins(0):%Y-%m-%d %H:%M}"]
 
 
-def without_history(arcs: Sequence[Arc], progress: Progress, dated: Sequence[DatedLag]) -> tuple[list[Arc], list[Arc]]:
+def without_history(arcs: Sequence[Arc], progress: Standing, dated: Sequence[DatedLag]) -> tuple[list[Arc], list[Arc]]:
     """The lags but for those between two that have started where they weren't kept, and these. Both starts are real, so such
     a lag says nothing of what comes."""
     starts = progress.started | {0: 0}

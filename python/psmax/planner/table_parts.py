@@ -17,11 +17,11 @@ Before = Mapping[int, set[int]]  # from which activities minimum lags lead to ea
 def as_parts(opened: ProjectFile) -> Project:
     """The same project."""
     made = Project()
-    fill(made, opened)
+    fill_from_table(made, opened)
     return made
 
 
-def fill(made: Parts, opened: ProjectFile) -> None:
+def fill_from_table(made: Parts, opened: ProjectFile) -> None:
     """Reads it into an empty one. What has no place in one by names is told at once."""
     numbers, table, settings, words = opened.project, opened.table, opened.settings, Words(opened)
     faults = [f"no other format has lags in calendar days, or parts tied to shifts that differ: {words.lag(arc)}"

@@ -6,7 +6,7 @@ from dataclasses import dataclass, field
 
 from ..clock import Clock
 from ..cubes.machines import CHECK, Cluster, Machines, Processes
-from ..cubes.parts import Parts
+from ..cubes.parts import RecordParts
 from ..files import read_bytes
 from ..programs import find_program
 from ..project import Goal
@@ -86,10 +86,10 @@ class Shares:
     def here(self) -> Machines:
         return Processes(self.jobs, find_program(Psprove.name), CHECK)
 
-    def parts(self, path: str, text: bytes) -> Parts:
+    def parts(self, path: str, text: bytes) -> RecordParts:
         if self.cluster is None:
-            return Parts(path, text, self.here(), Clock())
-        return Parts(path, text, Cluster(self.cluster, CHECK), Clock(), self.here())
+            return RecordParts(path, text, self.here(), Clock())
+        return RecordParts(path, text, Cluster(self.cluster, CHECK), Clock(), self.here())
 
 
 def verdict(opened: ProjectFile, path: str, start: Start, shares: Shares | None = None) -> Verdict:
@@ -101,8 +101,8 @@ def verdict(opened: ProjectFile, path: str, start: Start, shares: Shares | None 
         return judged(record_in(record_at(path), project), path, which)
     spelled = ProjectText(project)
     found = shares.parts(path, spelled.text).check()
-    return Verdict(path, Record(RecordFile(path), spelled), which, Psprove.name, "verify_log.py", found.says, found.is_wrong,
-                   found.count, found.own, found.believed)
+    return Verdict(path, Record(RecordFile(path), spelled), which, Psprove.name, "verify_log.py", found.says,
+                   found.is_wrong, found.count, found.own, found.believed)
 
 
 def judged(record: Record, path: str, which: str) -> Verdict:

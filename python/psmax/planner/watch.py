@@ -28,8 +28,8 @@ from .columns import is_head
 from .csv_text import read_sheet
 from .faults import explained
 from .page import More, file, html
-from .plan_search import Limits, PlanSearch
-from .plans import Plan, Schedule, keep
+from .plan_search import SearchLimits, PlanSearch
+from .plans import Plan, PlanSchedule, keep
 from .project_file import ProjectFile, open_project
 from .screen import Screen
 from .server import Server
@@ -134,19 +134,19 @@ class Watch:
             anew.told.extend([f"{fault}", "the plan before is not taken over"])
             return anew
 
-    def plan(self, opened: ProjectFile, beginning: Beginning, schedule: Schedule | None, given: AnswerText | None) -> None:
+    def plan(self, opened: ProjectFile, beginning: Beginning, schedule: PlanSchedule | None, given: AnswerText | None) -> None:
         """Where the project is the same, the plan and its search stay, perhaps with other names or dates. Else the page says so
         first, since a search may take seconds to end."""
         now, notes = self.screen.plans.get(self.screen.latest), (*opened.notes, *beginning.told)
         if now is not None and now.project == beginning.project and now.opened.project == opened.project:
-            is_told_so = schedule is None or schedule.told() == Schedule(opened, schedule.starts).told()
+            is_told_so = schedule is None or schedule.told() == PlanSchedule(opened, schedule.starts).told()
             self.screen.learn(self.screen.latest, opened=opened, before=now.before if is_told_so else schedule)
             return self.screen.tell(())
         number = self.screen.add(Plan(
             opened, beginning.project, f"{datetime.datetime.now():%H:%M:%S}", schedule, shadow(opened, given),
             Known(opened.project.goal, bound=ProjectText(beginning.project).value(0)), notes=notes))
         self.stop()
-        limits = Limits(self.options.seconds, self.options.jobs, self.options.record)
+        limits = SearchLimits(self.options.seconds, self.options.jobs, self.options.record)
         self.search = PlanSearch(self.screen, number, beginning, limits, self.folder)
         self.search.start()
 

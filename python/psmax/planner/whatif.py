@@ -67,7 +67,8 @@ def asked(opened: ProjectFile, changes: Sequence[str], seconds: float, jobs: int
     def known(place: int) -> tuple[Known, float]:
         """By one job beside others, in its share of the time that is left."""
         psprove, begun, left = Psprove(clock, opened.path), clock.elapsed(), clock.left()
-        answer = psprove.ask(files[place].project, Limits(min(left, left * jobs / (len(files) - place)), is_recorded=False))
+        limits = Limits(min(left, left * jobs / (len(files) - place)), is_recorded=False)
+        answer = psprove.ask(files[place].project, limits)
         return answer, clock.elapsed() - begun
 
     with ThreadPoolExecutor(jobs) as pool:
