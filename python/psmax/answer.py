@@ -7,9 +7,10 @@ from functools import cached_property
 from typing import NamedTuple, Self
 
 from .calendars import Calendar
-from .errors import BadInput
+from .errors import BadInput, UnknownName
 from .known import Known
-from .model import Absence, Activity, Lag, Parts, Resource
+from .letters import short
+from .model import Absence, Activity, Lag, Parts, Resource, must_be_a
 from .project import Goal
 from .project import Numbers
 from .project_text import ProjectText
@@ -74,10 +75,12 @@ class Question:
 
     def number(self, activity: Activity | str) -> int:
         """The number of an activity, which is handed in or named. BadInput where it was none of the project."""
-        place = self.places.get(activity)
-        if place is None:
-            return self.project.number(self.project[activity] if isinstance(activity, str) else activity)
-        return place
+        must_be_a((Activity, str), activity, "an activity")
+        if activity in self.places:
+            return self.places[activity]
+        if isinstance(activity, str):
+            raise UnknownName(f"no activity '{short(activity)}'")
+        raise BadInput(f"'{short(activity.name)}' is no activity of this project")
 
     @cached_property
     def places(self) -> Mapping[Activity | str, int]:

@@ -327,6 +327,8 @@ def path_of(record: bool | Path | None) -> str | None:
 def checked_limits(options: SearchOptions, seconds: float, jobs: int) -> Limits:
     if options.proved_by not in PROVED_BY:
         raise BadInput(f"proved_by {short(str(options.proved_by))}: neither {' nor '.join(PROVED_BY)}")
+    if options.start is not None and options.hint is not None:
+        raise BadInput("a start and a hint: a search begins with one of both")
     of_lemmas = {"hint": options.hint, "seed": options.seed, "conflicts": options.conflicts, "memory": options.memory,
                  "resume": options.resume, "bound": options.bound}
     other = [name for name, value in of_lemmas.items() if value is not None and options.proved_by == "tree"]

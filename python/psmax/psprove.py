@@ -76,7 +76,7 @@ class Psprove(Program):
             arguments = ["solve", "--json", "--progress", "json", *limits.arguments(), "--until", end, "--project",
                          text, "--follow", *([] if record is None else ["--record", record.path])]
             if limits.below is not None:
-                arguments += ["--below", f"{limits.below + spelled.offset}"]
+                arguments += ["--below", f"{max(0, limits.below + spelled.offset)}"]
             if start is not None and spelled.has(start):
                 with open(first, "wb") as file:
                     file.write(starts_text(spelled.inward(start)))

@@ -1,6 +1,7 @@
 """Files with records, which may be too long for memory."""
 import os
 import pathlib
+import shutil
 import tempfile
 import weakref
 from collections.abc import Callable, Iterable
@@ -14,10 +15,11 @@ class RecordFile:
     """A file with a record. One that a search wrote goes once nobody needs it any more, unless it is kept under a
     name."""
 
-    def __init__(self, path: str, is_ours: bool = False) -> None:
+    def __init__(self, path: str, folder: str | None = None) -> None:
+        """The folder is one of its own, which goes with it."""
         self.path = path
-        if is_ours:
-            weakref.finalize(self, remove, path, os.getpid())
+        if folder is not None:
+            weakref.finalize(self, remove, folder, os.getpid())
 
     def __repr__(self) -> str:
         return f"RecordFile({self.path!r}, {self.size():,} bytes)"
@@ -46,22 +48,22 @@ class RecordFile:
         write_parts(path, self.chunks())
 
     def keep(self, path: str) -> "RecordFile":
-        """Gives the file this name, where it lies in the same folder; it stays then."""
+        """Gives the file this name, which is one of the same file system; it stays then."""
         rename_whole(self.path, path)
         return RecordFile(path)
 
 
-def remove(path: str, owner: int) -> None:
-    """With what psprove was killed at. A process that was copied from the owner removes nothing."""
-    for place in (path, f"{path}.part") if os.getpid() == owner else ():
-        pathlib.Path(place).unlink(missing_ok=True)
+def remove(folder: str, owner: int) -> None:
+    """A process that was copied from the owner removes nothing."""
+    if os.getpid() == owner:
+        shutil.rmtree(folder, ignore_errors=True)
 
 
 def new_file(folder: str | None = None) -> RecordFile:
-    """A new file, in the folder of the system for such, or in this one."""
-    place, path = tempfile.mkstemp(prefix=".plan-record-", dir=folder)
-    os.close(place)
-    return RecordFile(path, is_ours=True)
+    """A new file, in the folder of the system for such, or in this one. Nobody else may read it, nor what psprove has while it
+    writes."""
+    own = tempfile.mkdtemp(prefix=".plan-", dir=folder)
+    return RecordFile(os.path.join(own, "record"), own)
 
 
 def file_of(data: bytes) -> RecordFile:

@@ -46,6 +46,10 @@ class Collection(InFolder):
         self.assertEqual((made.solve(10, 1).makespan, made.solve(10, 1).lateness), (8, None))
         del made["dig"]
         self.assertEqual((made.lags, lift.number, made.solve(10, 1).makespan), ([], 1, 4))
+        made.activity("sand", 1)
+        for name, kind in ((made["sand"], ValueError), ("sand", KeyError), (3, TypeError)):
+            with self.assertRaises(kind):
+                before[name]  # type: ignore[index]
         self.assertEqual((before["dig"], before.record and before.record.verify().bound), ((0, 3), 6))
 
     def test_what_goes_with_an_activity(self) -> None:

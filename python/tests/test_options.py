@@ -64,7 +64,7 @@ class Options(InFolder):
     def test_bound(self) -> None:
         """By hand, two jobs take 7. None takes less, which is proved; one takes less than 8."""
         two = psmax.Project.read(TWO)
-        for bound, wanted in ((7, "unknown bound 7"), (8, "optimal 7")):
+        for bound, wanted in ((7, "unknown bound 7"), (8, "optimal 7"), (-3, "unknown bound 4")):
             self.assertEqual(f"{two.solve(10, 1, bound=bound)}", wanted)
         made = psmax.Project()
         made.activity("dig", 3, due=5)
@@ -123,6 +123,7 @@ class Options(InFolder):
             ({"jobs": 1.5}, TypeError, "jobs: 1.5 is not a whole number"),
             ({"start": 7}, TypeError, "'7' is not a schedule, an answer, or a mapping"),
             ({"start": {"dig": "2026-03-02", "lift": 4}}, ValueError, "the date 2026-03-02 needs the project"),
+            ({"hint": {}, "start": {}}, ValueError, "a start and a hint: a search begins with one of both"),
             ({"hint": {"gone": 1}}, KeyError, "no activity 'gone'"),
             ({"frozen": {dig: None}}, TypeError, "the start of dig: None is not a whole number"),
             ({"now": -1}, ValueError, "now: -1 is not a whole number"),
@@ -156,7 +157,8 @@ class Records(InFolder):
         with self.temporary() as left:
             answer = made.solve(10, 1)
             assert answer.record is not None
-            self.assertEqual(left(), [answer.record.path])
+            self.assertEqual(left(), [os.path.dirname(answer.record.path)])
+            self.assertEqual(os.stat(left()[0]).st_mode & 0o077, 0)
             answer.record.write(pathlib.Path(self.folder / "copy"))
             packed = pickle.dumps(answer)
             del answer

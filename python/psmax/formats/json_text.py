@@ -192,7 +192,8 @@ def to_dict(project: Parts) -> dict[str, object]:
     told["activities"] = [activity_object(one) for one in project.activities]
     told["lags"] = [lag_object(one, project) for one in project.lags]
     if project.absences:
-        told["absences"] = [{"resource": one.resource.name, "from": one.begins, "units": one.units}
+        told["absences"] = [{"resource": one.resource.name, "from": one.begins}
+                            | ({} if one.away is None else {"units": one.away})
                             | ({} if one.ends is None else {"to": one.ends}) for one in project.absences]
     return told
 
