@@ -13,13 +13,13 @@ from .record_file import RecordFile, new_file
 BEGIN = b"record cases 1\n"
 
 
-def record_of(root: Case, starts: Sequence[int] | None) -> RecordFile | None:
-    """None where some case has no record."""
+def record_of(root: Case, starts: Sequence[int] | None, folder: str | None) -> RecordFile | None:
+    """A file in this folder; none where some case has no record."""
     records = [leaf.record for leaf in root.leaves()]
     if None in records:
         return None
     head = json.dumps({"cases": [*map(node_of, root.all())], "starts": None if starts is None else [*starts]})
-    made = new_file()
+    made = new_file(folder)
     with open(made.path, "wb") as file:
         file.write(BEGIN + head.encode() + b"\n")
         file.writelines(part for record in records if record is not None for part in record.chunks())

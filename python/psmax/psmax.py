@@ -55,7 +55,7 @@ class Psmax(Program):
         """A search of so many nodes, until the clock is over, from starts that are feasible where there are some. Without
         workers it goes depth first, and has neither a start nor a record."""
         spelled, record = ProjectText(project), None if workers is None else new_file(self.folder)
-        with tempfile.TemporaryDirectory(prefix=".plan-") as own:
+        with tempfile.TemporaryDirectory(prefix="plan-") as own:
             first = os.path.join(own, "start")
             arguments = ["solve", "--json", "--nodes", f"{nodes}"]
             arguments += [] if record is None else ["--workers", f"{workers}", "--record", record.path]

@@ -62,14 +62,14 @@ class Psprove(Program):
         psmax = Psmax(self.clock, self.project)
         found = CaseSearch(project, self.search, lambda starts: psmax.check(project, starts).value, hear)
         answer = found.run(left, start)
-        return replace(answer, record=record_of(found.root, found.starts))
+        return replace(answer, record=record_of(found.root, found.starts, self.folder))
 
     def search(self, project: Numbers, limits: Limits, start: tuple[int, ...] | None, hear: Hear) -> Known:
         """The same of an ordinary project."""
         if limits.seconds <= 0:
             raise TimeUp
         spelled, record = ProjectText(project), new_file(self.folder) if limits.is_recorded else None
-        with tempfile.TemporaryDirectory(prefix=".plan-", dir=self.folder) as folder:
+        with tempfile.TemporaryDirectory(prefix="plan-") as folder:
             text, first, end = (os.path.join(folder, name) for name in ("project", "start", "end"))
             with open(text, "wb") as file:
                 file.write(spelled.text)

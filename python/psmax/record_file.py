@@ -1,12 +1,12 @@
 """Files with records, which may be too long for memory."""
 import os
 import pathlib
-import shutil
 import tempfile
 import weakref
 from collections.abc import Callable, Iterable
+from contextlib import suppress
 
-from .files import DASH, read_bytes, rename_whole, write_parts
+from .files import DASH, keep_names, read_bytes, rename_whole, write_parts
 
 CHUNK = 1 << 20  # bytes that are read at once
 
@@ -15,11 +15,12 @@ class RecordFile:
     """A file with a record. One that a search wrote goes once nobody needs it any more, unless it is kept under a
     name."""
 
-    def __init__(self, path: str, folder: str | None = None) -> None:
-        """The folder is one of its own, which goes with it."""
+    def __init__(self, path: str, folder: str | None = None, is_flushed: bool = False) -> None:
+        """The folder is one of its own, which goes with it; where it is flushed, the disk knows then that it is gone."""
         self.path = path
+        self.forget: Callable[[], object] = lambda: None
         if folder is not None:
-            weakref.finalize(self, remove, folder, os.getpid())
+            self.forget = weakref.finalize(self, remove, folder, os.getpid(), is_flushed)
 
     def __repr__(self) -> str:
         return f"RecordFile({self.path!r}, {self.size():,} bytes)"
@@ -50,20 +51,27 @@ class RecordFile:
     def keep(self, path: str) -> "RecordFile":
         """Gives the file this name, which is one of the same file system; it stays then."""
         rename_whole(self.path, path)
+        self.forget()
         return RecordFile(path)
 
 
-def remove(folder: str, owner: int) -> None:
+def remove(folder: str, owner: int, is_flushed: bool) -> None:
     """A process that was copied from the owner removes nothing."""
-    if os.getpid() == owner:
-        shutil.rmtree(folder, ignore_errors=True)
+    if os.getpid() != owner:
+        return
+    with suppress(OSError):
+        for name in os.listdir(folder):
+            os.unlink(os.path.join(folder, name))
+        if is_flushed:
+            keep_names(pathlib.Path(folder))
+        os.rmdir(folder)
 
 
 def new_file(folder: str | None = None) -> RecordFile:
-    """A new file, in the folder of the system for such, or in this one. Nobody else may read it, nor what psprove has while it
-    writes."""
+    """A new file, in the folder of the system for such, or in this one. Nobody else may read it, nor what psprove has
+    while it writes."""
     own = tempfile.mkdtemp(prefix=".plan-", dir=folder)
-    return RecordFile(os.path.join(own, "record"), own)
+    return RecordFile(os.path.join(own, "record"), own, folder is not None)
 
 
 def file_of(data: bytes) -> RecordFile:

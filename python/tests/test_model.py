@@ -182,14 +182,16 @@ class Looks(InFolder):
     def test_rows(self) -> None:
         made = dated(WEEK)
         paint = made.activity("paint", 1)
-        answer = made.solve(10, 1, frozen={paint: 0})
+        answer = made.solve(10, 1)
         free = {"dig": 0, "paint": 5, "lift": 0}
         none = psmax.Float(0, 0, True)
         rows = answer.rows({paint: psmax.Float(5, 5, True), made["dig"]: none, made["lift"]: none})
         heads = ["activity", "start", "end", "start_date", "end_date", "free_float", "float", "is_critical"]
         self.assertEqual([*rows[0]], heads)
-        self.assertEqual({row["activity"]: row["float"] for row in rows}, free)
-        self.assertEqual([row["start_date"] for row in rows], [MONDAY, MONDAY, datetime.date(2026, 3, 9)])
+        for head in ("float", "free_float"):
+            self.assertEqual({row["activity"]: row[head] for row in rows}, free)
+        dates = {row["activity"]: row["start_date"] for row in rows}
+        self.assertEqual((dates["dig"], dates["lift"]), (MONDAY, datetime.date(2026, 3, 9)))
         self.assertEqual([*site()[0].solve(10, 1).rows()[0]], ["activity", "start", "end", "free_float"])
         with self.assertRaises(ValueError):
             made.solve(10, 1, frozen={"dig": 0, "lift": 0}).rows()

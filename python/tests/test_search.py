@@ -3,6 +3,7 @@ import asyncio
 import concurrent.futures
 import multiprocessing
 import os
+import tempfile
 import threading
 import time
 from collections.abc import Callable, Coroutine, Iterator
@@ -11,6 +12,8 @@ from unittest import mock
 
 import psmax
 from planner.tests.helpers import PSPROVE, TELLS, TWO, InFolder
+from psmax.clock import Clock
+from psmax.process import Process
 
 from .test_ends import PATIENCE, is_there
 
@@ -162,6 +165,18 @@ class Cancelled(Searching):
         return took
 
 
+class Late(InFolder):
+    def test_stopped_before_it_waits(self) -> None:
+        """A clock that is stopped once a program runs, and before anybody waits for it, ends it too."""
+        clock, begun = Clock(), time.monotonic()
+        with open(os.devnull, "rb") as source, tempfile.TemporaryFile() as out:
+            running = Process(["sleep", "60"], source, out, None, clock)
+            clock.stop()
+            self.assertFalse(running.run(begun + 60, lambda line: None))
+            running.close()
+        self.assertLess(time.monotonic() - begun, PATIENCE)
+
+
 class Told(Searching):
     def test_iterators(self) -> None:
         """A thread and a task hear the same of the same stand-in; the last is the answer."""
@@ -191,11 +206,13 @@ class Told(Searching):
 
     def test_faults(self) -> None:
         """Those of `until` end the search; those of a program come out of every wait."""
+        begun = time.monotonic()
         search = self.project.search(60, 1, until=lambda told: 1 // 0)
         calls: list[Callable[[], object]] = [search.result, lambda: [*search], lambda: asyncio.run(awaited(search))]
         for call in calls:
             with self.assertRaises(ZeroDivisionError):
                 call()
+        self.assertLess(time.monotonic() - begun, PATIENCE)
         with mock.patch.dict(os.environ, {"PSPROVE": self.program("lost", "exit 1")}):
             search = self.project.search(60, 1)
             with self.assertRaises(psmax.Failed):
