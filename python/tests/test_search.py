@@ -106,6 +106,7 @@ class Cancelled(Searching):
             with self.seen() as left:
                 search = self.project.search(60, 1)
                 task = asyncio.create_task(does(search))
+                await asyncio.sleep(0.01)  # since a task that has not begun waits for nothing
                 while not left():
                     await asyncio.sleep(0.01)
                 begun = time.monotonic()
