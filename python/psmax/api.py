@@ -15,7 +15,7 @@ from .call_files import lose_none, must_be_like
 from .clock import Clock
 from .core import find_core
 from .errors import BadInput, TimeUp, WrongType
-from .files import SPREADSHEET, decoded, folder_of, read_bytes, write_whole
+from .files import SPREADSHEET, decoded, folder_of, named_path, read_bytes, write_whole
 from .formats import json_text
 from .incumbent import Incumbent
 from .known import Known
@@ -76,6 +76,7 @@ class Project(Parts):
         which format it has, or else `format` does. A table of `plan` is read too, in CSV or in a spreadsheet file.
 
         BadInput where it is no project, or has a fault; Failed where the file can't be read."""
+        must_be_a((str, type(None)), format, "the name of a format")
         is_text = isinstance(source, bytes) or isinstance(source, str) and is_no_path(source)
         if not isinstance(source, (str, bytes, os.PathLike)):
             raise WrongType(f"'{short(str(source))}' is not a path or a text")
@@ -111,7 +112,7 @@ class Project(Parts):
 
     def write(self, path: Path, format: str | None = None) -> None:
         """Writes the text into a file, whole or not at all; its suffix says the format, or else `format` does."""
-        name = os.fspath(path)
+        name = named_path(path)
         write_whole(name, self.text(format or formats.of_file(name)).encode())
 
     def _repr_html_(self) -> str:
@@ -191,7 +192,7 @@ class Project(Parts):
     def verify(self, record: bytes | Path, minimize: str = "makespan") -> Proof:
         """What a record of this project proves, in a file or as its bytes. BadInput has its first wrong line or
         event."""
-        file = file_of(record) if isinstance(record, bytes) else record_at(os.fspath(record))
+        file = file_of(record) if isinstance(record, bytes) else record_at(named_path(record))
         return record_in(file, self.numbers(minimize)).verify()
 
     def why(self, deadline: Time | None = None, seconds: float = SECONDS, jobs: int | None = None,
@@ -339,7 +340,7 @@ def checked_limits(options: SearchOptions, seconds: float, jobs: int) -> Limits:
                                          ("bound", -10**9, 10**9))}
     resume = options.resume.path if isinstance(options.resume, Record) else options.resume
     return Limits(seconds, jobs, checked["conflicts"], checked["seed"], checked["memory"], checked["bound"],
-                  None if resume is None else record_at(os.fspath(resume)).path, options.record is not False)
+                  None if resume is None else record_at(named_path(resume)).path, options.record is not False)
 
 
 def enough(options: SearchOptions) -> Callable[[Progress], object]:

@@ -11,7 +11,7 @@ from contextlib import contextmanager
 from typing import TextIO
 from weakref import WeakKeyDictionary
 
-from .errors import BadInput, Failed
+from .errors import BadInput, Failed, WrongType
 
 STANDARD_INPUT = "/dev/stdin"  # where an answer comes from that is in no file
 DASH = "-"  # what standard input is called by words of the command
@@ -109,6 +109,13 @@ def decoded(data: bytes) -> str:
         return decode(data)
     except UnicodeDecodeError:
         return data.decode("utf-8-sig", "replace")
+
+
+def named_path(path: object) -> str:
+    """The text of a path that a user names."""
+    if not isinstance(path, (str, os.PathLike)):
+        raise WrongType(f"{path!r} is no path")
+    return os.fsdecode(path)
 
 
 def folder_of(path: str | None) -> str | None:

@@ -109,6 +109,7 @@ class Parts:
     `del project["dig"]`."""
 
     def __init__(self, name: str = "") -> None:
+        must_be_a(str, name, "a name of a project")
         self.name = name
         self._work_time: WorkTime | None = None
         self.resources: list[Resource] = []

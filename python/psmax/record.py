@@ -8,6 +8,7 @@ from dataclasses import dataclass
 from .case_record import read_cases
 from .clock import Clock
 from .errors import BadInput, Failed
+from .files import named_path
 from .known import ODD
 from .programs import Program
 from .project import Numbers
@@ -83,7 +84,7 @@ class Record:
 
     def write(self, path: str | os.PathLike[str]) -> None:
         """A copy under this name, whole or not at all."""
-        self.file.write(os.fspath(path))
+        self.file.write(named_path(path))
 
     def cases(self) -> int:
         """How many records of cases it has; 0 for one of a project without lags in calendar days."""

@@ -104,6 +104,13 @@ class Collection(InFolder):
             (lambda: psmax.Project.from_dict({}), ValueError, "the project has no key 'activities'"),
             (lambda: psmax.Answer.from_dict(made, {}), ValueError, "an answer has no key 'bound'"),
             (lambda: made.float(made.solve(10, 1), odd), TypeError, "seconds: None is not a number above 0"),
+            (lambda: psmax.Project(odd), TypeError, "'None' is not a name of a project"),
+            (lambda: made.verify(odd), TypeError, "None is no path"),
+            (lambda: made.write(odd), TypeError, "None is no path"),
+            (lambda: made.text(odd), TypeError, "format None: no name of a format"),
+            (lambda: psmax.Project.read("a\nb", crew), TypeError, "is not the name of a format"),
+            (lambda: made.solve(10, 1, resume=crew), TypeError, "is no path"),
+            (lambda: made.solve(10, 1, minimize=odd), ValueError, "minimize None: neither makespan nor lateness"),
             (lambda: made.why(-1), ValueError, "the deadline: -1 is not a whole number"),
         ]
         for call, kind, wanted in cases:
