@@ -189,11 +189,12 @@ class Project(Parts):
         hint = {one: start for one, start in old.items() if one not in frozen}
         return self.solve(seconds, jobs, hint=hint, frozen=frozen, now=time, record=record, minimize=minimize)
 
-    def verify(self, record: bytes | Path, minimize: str = "makespan") -> Proof:
-        """What a record of this project proves, in a file or as its bytes. BadInput has its first wrong line or
-        event."""
+    def verify(self, record: bytes | Path, minimize: str = "makespan", frozen: Frozen | None = None,
+               now: Time | None = None) -> Proof:
+        """What a record of this project proves, in a file or as its bytes, with what the search kept. BadInput has its
+        first wrong line or event."""
         file = file_of(record) if isinstance(record, bytes) else record_at(named_path(record))
-        return record_in(file, self.numbers(minimize)).verify()
+        return record_in(file, with_frozen(question(self, minimize), frozen, now).numbers).verify()
 
     def why(self, deadline: Time | None = None, seconds: float = SECONDS, jobs: int | None = None,
             minimize: str = "makespan") -> Why:
@@ -293,7 +294,7 @@ def begin_search(project: Parts, seconds: float, jobs: int | None, options: Sear
     limits = checked_limits(options, clock.seconds, checked_jobs(jobs))
     lose_none({}, [path])
     must_be_like(path, BEGIN, "record")
-    asked = with_frozen(question(project, options.minimize), options)
+    asked = with_frozen(question(project, options.minimize), options.frozen, options.now)
     start = None if options.start is None else feasible_starts(asked, options.start)
     hint = [] if options.hint is None else pairs_of(project, options.hint)
     old = {asked.number(one): time for one, time in hint}
@@ -389,14 +390,14 @@ def pairs_of(project: Parts, starts: Frozen) -> list[tuple[Activity, int]]:
     return [(one, first_time(time, f"the start of {one.name}", project.calendar, -MOST_UNITS)) for one, time in pairs]
 
 
-def with_frozen(asked: Question, options: SearchOptions) -> Question:
+def with_frozen(asked: Question, frozen: Frozen | None, now: Time | None) -> Question:
     """With lags that keep what is frozen at its start, and the rest from starting before now."""
-    frozen = {} if options.frozen is None else dict(pairs_of(asked.project, options.frozen))
-    fixed = {asked.number(one): start for one, start in frozen.items()}
+    pairs = [] if frozen is None else pairs_of(asked.project, frozen)
+    fixed = {asked.number(one): start for one, start in pairs}
     arcs = [arc for i, start in fixed.items() for arc in (Arc(0, i, start), Arc(i, 0, -start))]
-    if options.now is not None:
-        now = first_time(options.now, "now", asked.project.calendar)
-        arcs += [Arc(0, i, now) for i in range(1, asked.numbers.end) if i not in fixed]
+    if now is not None:
+        time = first_time(now, "now", asked.project.calendar)
+        arcs += [Arc(0, i, time) for i in range(1, asked.numbers.end) if i not in fixed]
     return replace(asked, numbers=replace(asked.numbers, arcs=(*asked.numbers.arcs, *arcs))) if arcs else asked
 
 

@@ -78,6 +78,8 @@ class Options(InFolder):
         self.assertEqual((answer[dig].start, answer[lift].start, answer[paint].start >= 4), (2, 6, True))
         assert answer.record is not None
         self.assertEqual((answer.makespan, f"{answer.record.verify()}"), (8, "proved optimal 8"))
+        self.assertEqual(made.verify(answer.record.path, frozen={dig: 2}, now=4), answer.record.verify())
+        self.assertNotEqual(f"{made.solve(10, 1)}", "optimal 8")
         self.assertEqual(made.solve(10, 1, frozen=answer)["lift"].start, 6)
         self.assertEqual(made.solve(10, 1, frozen={"dig": 0, "lift": 0}).status, "no schedule")
 
