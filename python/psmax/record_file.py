@@ -70,7 +70,7 @@ def remove(folder: str, owner: int, is_flushed: bool) -> None:
 def new_file(folder: str | None = None) -> RecordFile:
     """A new file, in the folder of the system for such, or in this one. Nobody else may read it, nor what psprove has
     while it writes."""
-    own = tempfile.mkdtemp(prefix=".plan-", dir=folder)
+    own = tempfile.mkdtemp(prefix="plan-" if folder is None else ".plan-", dir=folder)
     return RecordFile(os.path.join(own, "record"), own, folder is not None)
 
 

@@ -2,7 +2,7 @@
 import datetime
 import xml.dom.minidom
 from collections.abc import Callable
-from typing import Any
+from typing import Any, cast
 
 import psmax
 from planner.tests.helpers import EXAMPLES, InFolder
@@ -77,11 +77,18 @@ class Collection(InFolder):
         trial.absences.clear()
         self.assertEqual((trial.solve(10, 1).makespan, len(made.absences)), (6, 2))
 
-    def test_wrong(self) -> None:
+    def must_raise(self, cases: list[tuple[Callable[[], object], type[Exception], str]]) -> None:
+        for call, kind, wanted in cases:
+            with self.subTest(wanted), self.assertRaises(kind) as caught:
+                call()
+            self.assertIn(wanted, f"{caught.exception}")
+
+    def test_wrong_values(self) -> None:
+        """Nothing of the project is changed by them."""
         made, dig, lift = site()
         odd: Any = None
         crew: Any = made.resources[0]
-        cases: list[tuple[Callable[[], object], type[Exception], str]] = [
+        self.must_raise([
             (lambda: setattr(dig, "duration", -1), ValueError, "the duration of dig: -1 is not a whole number"),
             (lambda: setattr(dig, "duration", "1 d"), ValueError, "'1 d' needs the project's calendar"),
             (lambda: setattr(dig, "duration", 1.5), TypeError, "the duration of dig: 1.5 is not a whole number"),
@@ -94,6 +101,12 @@ class Collection(InFolder):
             (lambda: made.resource(odd, 1), TypeError, "the name of a resource is not a text"),
             (lambda: made.__delitem__(site()[1]), ValueError, "'dig' is no activity of this project"),
             (lambda: setattr(made, "calendar", "mon-fri"), TypeError, "'mon-fri' is not a WorkTime"),
+        ])
+        self.assertEqual((dig.duration, lift.number, made.calendar), (3, 2, None))
+
+    def test_wrong_calls(self) -> None:
+        made, odd = site()[0], cast(Any, None)
+        self.must_raise([
             (lambda: psmax.WorkTime(odd), TypeError, "first: None is no date such as 2026-03-02"),
             (lambda: psmax.WorkTime("2026-13-02"), ValueError, "from 2026-13-02: there is no such date"),
             (lambda: psmax.WorkTime(MONDAY, workdays="mon-fry"), ValueError, "workdays mon-fry: not days such as"),
@@ -108,16 +121,11 @@ class Collection(InFolder):
             (lambda: made.verify(odd), TypeError, "None is no path"),
             (lambda: made.write(odd), TypeError, "None is no path"),
             (lambda: made.text(odd), TypeError, "format None: no name of a format"),
-            (lambda: psmax.Project.read("a\nb", crew), TypeError, "is not the name of a format"),
-            (lambda: made.solve(10, 1, resume=crew), TypeError, "is no path"),
+            (lambda: psmax.Project.read("a\nb", cast(Any, 7)), TypeError, "is not the name of a format"),
+            (lambda: made.solve(10, 1, resume=cast(Any, 7)), TypeError, "is no path"),
             (lambda: made.solve(10, 1, minimize=odd), ValueError, "minimize None: neither makespan nor lateness"),
             (lambda: made.why(-1), ValueError, "the deadline: -1 is not a whole number"),
-        ]
-        for call, kind, wanted in cases:
-            with self.subTest(wanted), self.assertRaises(kind) as caught:
-                call()
-            self.assertIn(wanted, f"{caught.exception}")
-        self.assertEqual((dig.duration, lift.number, made.calendar), (3, 2, None))
+        ])
 
 
 class Dates(InFolder):
