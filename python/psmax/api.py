@@ -71,19 +71,23 @@ class Project(Parts):
         return f"Project({self.name!r}, {len(self)} activities, {len(self.resources)} resources, {len(self.lags)} lags)"
 
     @classmethod
-    def read(cls, source: str | bytes | os.PathLike[str], format: str | None = None) -> Self:
+    def read(cls, source: str | bytes | os.PathLike[str], format: str | None = None, sheet: str | None = None) -> Self:
         """A project from a file, or from a text: bytes, or more lines than one, or what begins as JSON or XML. The text says
-        which format it has, or else `format` does. A table of `plan` is read too, in CSV or in a spreadsheet file.
+        which format it has, or else `format` does. A table of `plan` is read too, in CSV or in a sheet of a spreadsheet
+        file; what is to be said of it goes to the log.
 
         BadInput where it is no project, or has a fault; Failed where the file can't be read."""
-        must_be_a((str, type(None)), format, "the name of a format")
+        for name, what in ((format, "the name of a format"), (sheet, "the name of a sheet")):
+            must_be_a((str, type(None)), name, what)
         is_text = isinstance(source, bytes) or isinstance(source, str) and is_no_path(source)
         if not isinstance(source, (str, bytes, os.PathLike)):
             raise WrongType(f"'{short(str(source))}' is not a path or a text")
         called = "the text" if is_text else os.fsdecode(source)
         data = source if isinstance(source, bytes) else f"{source}".encode() if is_text else read_bytes(called)
+        if sheet is not None and not data.startswith(SPREADSHEET):
+            raise BadInput(f"{called}: a sheet is for spreadsheet files")
         made = cls()
-        if format is not None or not read_if_table(made, data, called, is_text):
+        if format is not None or not read_if_table(made, data, called, is_text, sheet):
             formats.read(data, made, called, format)
         return made
 
@@ -238,7 +242,7 @@ def is_no_path(text: str) -> bool:
     return "\n" in text or text.startswith(("{", "<"))
 
 
-def read_if_table(made: Parts, data: bytes, called: str, is_text: bool) -> bool:
+def read_if_table(made: Parts, data: bytes, called: str, is_text: bool, sheet: str | None) -> bool:
     """Reads a table of `plan`, if it is one. Whether it is."""
     from .planner.project_file import is_table, open_table, open_table_text
     from .planner.settings import Settings
@@ -248,7 +252,10 @@ def read_if_table(made: Parts, data: bytes, called: str, is_text: bool) -> bool:
     text = "" if data.startswith(SPREADSHEET) else decoded(data)
     if not data.startswith(SPREADSHEET) and (formats.is_like_some(text) or not is_table(called, text)):
         return False
-    fill_from_table(made, open_table_text(called, text) if is_text else open_table(called, Settings()))
+    opened = open_table_text(called, text) if is_text else open_table(called, Settings(sheet=sheet))
+    for note in opened.notes:
+        LOG.warning("%s: %s", called, note)
+    fill_from_table(made, opened)
     return True
 
 

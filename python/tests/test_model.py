@@ -1,5 +1,7 @@
 """A project as a collection that changes, its dates, and what it looks like. What is expected is counted by hand."""
 import datetime
+import importlib.util
+import unittest
 import xml.dom.minidom
 from collections.abc import Callable
 from typing import Any, cast
@@ -122,6 +124,7 @@ class Collection(InFolder):
             (lambda: made.write(odd), TypeError, "None is no path"),
             (lambda: made.text(odd), TypeError, "format None: no name of a format"),
             (lambda: psmax.Project.read("a\nb", cast(Any, 7)), TypeError, "is not the name of a format"),
+            (lambda: psmax.Project.read("a\nb", sheet="x"), ValueError, "the text: a sheet is for spreadsheet files"),
             (lambda: made.solve(10, 1, resume=cast(Any, 7)), TypeError, "is no path"),
             (lambda: made.solve(10, 1, minimize=odd), ValueError, "minimize None: neither makespan nor lateness"),
             (lambda: made.why(-1), ValueError, "the deadline: -1 is not a whole number"),
@@ -188,9 +191,32 @@ class Dates(InFolder):
         self.assertEqual((answer.status, answer.makespan, last), ("optimal", 27, datetime.date(2026, 4, 9)))
         why = hall.why(26, 20, 2)
         self.assertEqual((why.status, why.is_smallest, bool(why.parts)), ("no schedule", True, True))
+        with self.assertLogs("psmax", "WARNING") as told:
+            psmax.Project.read("name,days,mood\ndig,3,good\n")
+        self.assertIn("columns of your own are passed over: 'mood'", told.output[0])
         wrong = self.file("x.csv", "name,duration\ndig,x\n")
         with self.assertRaisesRegex(psmax.BadInput, "row 2, column B .duration.: 'x' is not a number"):
             psmax.Project.read(wrong)
+
+    @unittest.skipUnless(importlib.util.find_spec("openpyxl"), "openpyxl isn't here")
+    def test_spreadsheets(self) -> None:
+        """The sheet that is named; of a text a sheet can't be named."""
+        openpyxl: Any = importlib.import_module("openpyxl")
+        book, path = openpyxl.Workbook(), self.folder / "x.xlsx"
+        for sheet, days in ((book.active, 3), (book.create_sheet("second"), 4)):
+            for row in (["name", "days"], ["dig", days]):
+                sheet.append(row)
+        book.save(path)
+        self.assertEqual(psmax.Project.read(path, sheet="second")["dig"].duration, 4)
+        with self.assertRaisesRegex(psmax.BadInput, "no sheet"):
+            psmax.Project.read(path, sheet="third")
+        with self.assertRaisesRegex(psmax.BadInput, "a spreadsheet file is read by its path"):
+            psmax.Project.read(path.read_bytes())
+
+    @unittest.skipIf(importlib.util.find_spec("openpyxl"), "openpyxl is here")
+    def test_without_openpyxl(self) -> None:
+        with self.assertRaisesRegex(psmax.Failed, "needs the package openpyxl: install python3-openpyxl"):
+            psmax.Project.read(self.file("x.xlsx", b"PK\x03\x04"))
 
 
 class Looks(InFolder):
