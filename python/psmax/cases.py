@@ -10,7 +10,7 @@ from typing import TYPE_CHECKING
 from .dated import DatedLag, broken
 from .errors import TimeUp
 from .known import Known
-from .project import MOST_ARCS, MOST_UNITS, Arc, Numbers, in_order, least_starts, within
+from .project import MOST_ARCS, MOST_UNITS, Arc, Numbers, with_order, least_starts, within
 from .project_text import ProjectText
 from .record_file import RecordFile
 
@@ -186,7 +186,7 @@ class CaseSearch:
             self.starts, self.value = starts, starts[-1]
 
     def repaired(self, starts: tuple[int, ...]) -> tuple[int, ...] | None:
-        ordered = in_order(replace(self.project, dated=()), {i: starts[i] for i in range(1, self.project.end)})
+        ordered = with_order(replace(self.project, dated=()), {i: starts[i] for i in range(1, self.project.end)})
         if least_starts(ordered) is None:
             return None
         found = tuple(soonest_starts(ordered, self.project.dated))

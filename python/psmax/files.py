@@ -146,7 +146,7 @@ def write_parts(path: str, parts: Iterable[bytes]) -> None:
     must_be_writable(path)
     target = pathlib.Path(path).resolve()
     try:
-        with beside(target, parts) as made:
+        with file_beside(target, parts) as made:
             made.replace(target)
             keep_names(target.parent)
     except OSError as fault:
@@ -154,7 +154,7 @@ def write_parts(path: str, parts: Iterable[bytes]) -> None:
 
 
 @contextmanager
-def beside(target: pathlib.Path, parts: Iterable[bytes], like: pathlib.Path | None = None) -> Iterator[pathlib.Path]:
+def file_beside(target: pathlib.Path, parts: Iterable[bytes], like: pathlib.Path | None = None) -> Iterator[pathlib.Path]:
     """A file in the same folder, which the disk has, with the mode of the one that it replaces or is like. It is deleted,
     unless it gets another name."""
     with tempfile.NamedTemporaryFile(dir=target.parent, prefix=".plan-", delete=False) as file:
@@ -216,7 +216,7 @@ def write_new(files: Mapping[str, bytes], like: str | None = None) -> bool:
     made: list[str] = []
     try:
         for path, data in files.items():
-            with beside(pathlib.Path(path), [data], pathlib.Path(like) if like is not None else None) as whole:
+            with file_beside(pathlib.Path(path), [data], pathlib.Path(like) if like is not None else None) as whole:
                 put_new(whole, path)
             made.append(path)
         for folder in {os.path.dirname(path) or "." for path in files}:

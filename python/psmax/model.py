@@ -205,7 +205,7 @@ class Parts:
         until = f"until when {resource.name} is away"
         last = None if ends is None else time_behind(ends, until, self.calendar, first + 1)
         made = Absence(resource, first, last, away)
-        must_be_there([*(one for one in self.absences if one.resource is resource), made])
+        must_be_enough([*(one for one in self.absences if one.resource is resource), made])
         self.absences.append(made)
         return made
 
@@ -256,7 +256,7 @@ class Parts:
         if key != "capacity":
             raise AttributeError(f"the {key} of a resource stays as it is")
         units, own = whole(value, f"the capacity of {one.name}"), [each for each in self.absences if each.resource is one]
-        must_be_there([replace(each, away=units if each.away is None else each.away) for each in own], units)
+        must_be_enough([replace(each, away=units if each.away is None else each.away) for each in own], units)
         return units
 
     def number(self, activity: Activity) -> int:
@@ -297,7 +297,7 @@ class Parts:
     def numbers(self, minimize: str = Goal.MAKESPAN.value) -> Numbers:
         """The project as numbers, for the programs."""
         arcs = [arc for arc, _ in self.arcs()]
-        must_be_possible(arcs)
+        must_fit_text(arcs)
         all_of_it = [self._source, *self.activities, self._sink]
         rows = (tuple(one.demands.get(resource, 0) for resource in self.resources) for one in all_of_it)
         due = {one.number: one.due for one in self.activities if one.due is not None}
@@ -355,7 +355,7 @@ def must_be_room(there: Sized, most: int, what: str) -> None:
         raise BadInput(f"a project has at most {most:,} {what}")
 
 
-def must_be_there(absences: Sequence[Absence], capacity: int | None = None) -> None:
+def must_be_enough(absences: Sequence[Absence], capacity: int | None = None) -> None:
     """No more units of a resource are away at once than there are."""
     for time in sorted({one.begins for one in absences}):
         away = sum(one.units for one in absences if one.begins <= time and (one.ends is None or time < one.ends))
@@ -364,7 +364,7 @@ def must_be_there(absences: Sequence[Absence], capacity: int | None = None) -> N
             raise BadInput(f"{away} of {absences[0].resource.name} are away at {time}, and there are {there}")
 
 
-def must_be_possible(arcs: list[Arc]) -> None:
+def must_fit_text(arcs: list[Arc]) -> None:
     far = next((arc.lag for arc in arcs if abs(arc.lag) > MOST_UNITS), None)
     if far is not None:
         raise BadInput(f"a lag from start to start of {far:,} is needed, and one has at most {MOST_UNITS:,}")

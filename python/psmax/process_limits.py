@@ -42,7 +42,7 @@ def answer(target: int, work: Callable[[], str]) -> NoReturn:
             signal.signal(number, signal.SIG_DFL)
         signal.alarm(PATIENCE)
         for what, most in ((resource.RLIMIT_CPU, SECONDS), (resource.RLIMIT_AS, memory() + MEMORY), (resource.RLIMIT_CORE, 0)):
-            limit(what, most)
+            set_limit(what, most)
         told = json.dumps(told_by(work)).encode()
         with open(target, "wb") as pipe:
             pipe.write(told)
@@ -60,7 +60,7 @@ def told_by(work: Callable[[], str]) -> list[str]:
         return [type(fault).__name__, *map(str, fault.args)]
 
 
-def limit(what: int, most: int) -> None:
+def set_limit(what: int, most: int) -> None:
     """At most so much, and no more than before."""
     hard = resource.getrlimit(what)[1]
     resource.setrlimit(what, (most if hard == resource.RLIM_INFINITY else min(most, hard), hard))

@@ -150,7 +150,7 @@ class Numbers:
                 and self.durations[i] and any(self.demands[i][k] for k in self.crews)]
 
 
-def in_order(project: Numbers, old: Mapping[int, int]) -> Numbers:
+def with_order(project: Numbers, old: Mapping[int, int]) -> Numbers:
     """The project in which activities that can't run at once, or that need the same and didn't run at once by old starts,
     keep their order, the nearest first where the format has no room for all."""
     arcs = [Arc(i, j, project.durations[i]) for i, j in combinations(sorted(old, key=old.__getitem__), 2)

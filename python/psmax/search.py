@@ -12,7 +12,7 @@ from types import MappingProxyType
 from .clock import tell
 from .errors import TimeUp
 from .incumbent import Incumbent
-from .project import MOST_ARCS, Arc, Numbers, in_order
+from .project import MOST_ARCS, Arc, Numbers, with_order
 from .psmax import Psmax
 from .psprove import Limits, Psprove
 
@@ -57,7 +57,7 @@ def repair(psprove: Psprove, best: Incumbent, project: Numbers, old: Mapping[int
 
 def orders(project: Numbers, old: Mapping[int, int]) -> Iterator[Numbers]:
     """The project in the order of an old schedule: first with no start before the old one, then without that."""
-    ordered = in_order(project, old)
+    ordered = with_order(project, old)
     later = tuple(Arc(0, i, start) for i, start in old.items())[: MOST_ARCS - len(ordered.arcs)]
     yield replace(ordered, arcs=ordered.arcs + later)
     yield ordered

@@ -6,7 +6,7 @@ from dataclasses import dataclass, field, replace
 from functools import cached_property
 
 from ..calendars import MINUTES, Calendar
-from ..crew_hours import SPANS, Stretch, windows
+from ..crew_hours import SPANS, Stretch, hour_windows
 from ..dates import read_shift
 from ..errors import BadInput
 from ..letters import at_most
@@ -108,7 +108,7 @@ def must_fit(project: Parts, faults: Gathering, called: Callable[[Activity], str
         begun = project.started.get(activity.number)
         rest = activity.duration if begun is None else begun + activity.duration - crews.now
         if crew not in found:
-            found[crew] = windows(off, crew, crews.now, until)
+            found[crew] = hour_windows(off, crew, crews.now, until)
         longest = max((last - first for first, last in found[crew] if begun is None or first <= crews.now), default=0)
         if crew and rest > longest:
             faults.faults.append(f"{called(activity)}: it takes longer than all that it needs is there at a time, and "

@@ -14,7 +14,7 @@ from . import drawing
 from .answer import JudgedStarts, feasible
 from .answer_text import read_answer
 from .beginning import Beginning, Start, begin_with
-from .gantt import Chart
+from .gantt import ChartWords
 from .project_file import ProjectFile, must_be_ordinary
 from .window import Window, windows
 from .write import Sheet, in_order, rows
@@ -75,7 +75,7 @@ def cells(opened: ProjectFile, starts: tuple[int, ...], activity: int, window: W
     return [*(opened.times(activity, time)[0] for time in times), *spare, opened.length(window.float)]
 
 
-def floats(opened: ProjectFile, given: str | None, sheet: Sheet, chart: Chart, wanted: Total | None) -> int:
+def floats(opened: ProjectFile, given: str | None, sheet: Sheet, chart: ChartWords, wanted: Total | None) -> int:
     start = wanted.start if wanted is not None else Start(None, None)
     inputs = opened.inputs() | start.inputs() | {"the answer": given or STANDARD_INPUT}
     folder = None if wanted is None else sheet.out

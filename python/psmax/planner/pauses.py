@@ -5,7 +5,7 @@ from collections.abc import Sequence
 from contextlib import suppress
 from dataclasses import dataclass, field
 
-from ..crew_hours import SPANS, Crews, Stretch, windows
+from ..crew_hours import SPANS, Crews, Stretch, hour_windows
 from ..dated import DatedLag
 from ..errors import BadInput
 from ..project import Arc, Numbers
@@ -98,7 +98,7 @@ class Cuts:
         """Those within some weeks after a time. The first and the last one may be cut."""
         now = self.crews.now
         until = self.crews.after(now if time is None else time, SPANS[0])
-        return windows(self.crews.off(until), crew, now, until)
+        return hour_windows(self.crews.off(until), crew, now, until)
 
     def name(self, activities: Activities) -> None:
         """A lag to a row that was cut is tied to its first part or to its last one."""
