@@ -11,7 +11,7 @@ import sys
 import tarfile
 import tomllib
 import zipfile
-from collections.abc import Iterator, Mapping
+from collections.abc import Iterator, Mapping, Sequence
 from typing import Any
 
 TOP = pathlib.Path(__file__).resolve().parent.parent
@@ -43,8 +43,10 @@ def metadata() -> str:
     """What pip knows of the package, with the README as its long description."""
     project = stated()
     heads = {"Metadata-Version": "2.1", "Name": project["name"], "Version": version(), "Summary": project["description"],
+             "Author": ", ".join(one["name"] for one in project["authors"]), "Keywords": ",".join(project["keywords"]),
              "Requires-Python": project["requires-python"], "Description-Content-Type": "text/markdown"}
     lines = [f"{head}: {text}\n" for head, text in heads.items()]
+    lines += [f"Classifier: {text}\n" for text in project["classifiers"]]
     for name, needs in project["optional-dependencies"].items():
         lines += [f"Provides-Extra: {name}\n", *(f"Requires-Dist: {one}; extra == '{name}'\n" for one in needs)]
     return "".join(lines) + "\n" + (TOP / "README.md").read_text()
@@ -57,12 +59,14 @@ def modules() -> Iterator[tuple[str, bytes, int]]:
             yield str(path.relative_to(TOP / "python")), path.read_bytes(), 0o644
 
 
-def package() -> Iterator[tuple[str, bytes, int]]:
-    """The same in the wheel, with the programs."""
-    yield from modules()
-    for folder in ("psmax/bin", f"psmax-{version()}.data/scripts"):  # for the package, and as commands
-        for name in PROGRAMS:
-            yield f"{folder}/{name}", (TOP / "release" / name).read_bytes(), 0o755
+def programs(folder: str) -> Iterator[tuple[str, bytes, int]]:
+    for name in PROGRAMS:
+        yield f"{folder}/{name}", (TOP / "release" / name).read_bytes(), 0o755
+
+
+def commands() -> str:
+    """The folder of what becomes a command."""
+    return f"psmax-{version()}.data/scripts"
 
 
 def told() -> Iterator[tuple[str, bytes, int]]:
@@ -80,11 +84,22 @@ def line(name: str, data: bytes) -> str:
 
 def build_wheel(wheel_directory: str, config_settings: Settings = None, metadata_directory: str | None = None) -> str:
     """Writes the wheel there. Its name."""
-    files = [*package(), *told()]
+    return put([*modules(), *programs("psmax/bin"), *programs(commands()), *told()], wheel_directory)
+
+
+def build_editable(wheel_directory: str, config_settings: Settings = None,
+                   metadata_directory: str | None = None) -> str:
+    """Writes a wheel there that leads to these sources (PEP 660). Its name."""
+    path = f"{TOP / 'python'}\n".encode()
+    return put([("psmax.pth", path, 0o644), *programs(commands()), *told()], wheel_directory)
+
+
+def put(files: Sequence[tuple[str, bytes, int]], folder: str) -> str:
+    """A wheel of these files."""
     record = f"psmax-{version()}.dist-info/RECORD"
     lines = "".join(line(name, data) for name, data, _ in files) + f"{record},,\n"
     wheel = f"psmax-{version()}-{TAG}.whl"
-    with zipfile.ZipFile(pathlib.Path(wheel_directory) / wheel, "w", zipfile.ZIP_DEFLATED) as archive:
+    with zipfile.ZipFile(pathlib.Path(folder) / wheel, "w", zipfile.ZIP_DEFLATED) as archive:
         for name, data, mode in [*files, (record, lines.encode(), 0o644)]:
             entry = zipfile.ZipInfo(name, BEGINNING)
             entry.external_attr, entry.compress_type = (0o100000 | mode) << 16, zipfile.ZIP_DEFLATED

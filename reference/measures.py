@@ -3,10 +3,10 @@ definitions)."""
 from collections.abc import Sequence
 
 from networks import peak
-from psmax.project import Project, least_starts
+from psmax.project import Numbers, least_starts
 
 
-def order_strength(project: Project) -> float:
+def order_strength(project: Numbers) -> float:
     """The share of the pairs of activities of which a path of minimum lags leads from one to the other."""
     after: list[int] = [1 << i for i in range(project.end + 1)]
     grows = True
@@ -21,7 +21,7 @@ def order_strength(project: Project) -> float:
     return ordered / max(1, len(inner) * (len(inner) - 1) // 2)
 
 
-def rooms(project: Project, starts: Sequence[int]) -> tuple[int, int]:
+def rooms(project: Numbers, starts: Sequence[int]) -> tuple[int, int]:
     """How many units the resources have above what the neediest activity needs of each, and how many more than that all
     need at most at these starts."""
     there = wanted = 0
@@ -32,7 +32,7 @@ def rooms(project: Project, starts: Sequence[int]) -> tuple[int, int]:
     return there, wanted
 
 
-def measured(project: Project) -> dict[str, str]:
+def measured(project: Numbers) -> dict[str, str]:
     """The columns of it."""
     starts = least_starts(project)
     there, wanted = rooms(project, starts) if starts else (0, 0)

@@ -6,7 +6,9 @@ tells   the reports of its book, one after another, each with the bound, and per
 then    "answers" at once; "pairs", with two jobs at a time, whatever the project is; "waits" for its limits, and
         answers; "sticks", and has to be killed; or "dies"
 answer  the starts and the bound of its answer, which is otherwise that of its last report
-record  the seconds that its record takes after the answer"""
+times   how often it tells all of that
+record  the seconds that its record takes after the answer
+bytes   how many its record has, most of them 0"""
 from __future__ import annotations
 
 import marshal
@@ -65,7 +67,7 @@ def wait(options: dict[str, str]) -> None:
 def main(path: str, *words: str) -> None:
     with open(path, "rb") as file:
         story: Row = marshal.load(file)
-    for told in story["tells"]:
+    for told in story["tells"] * story.get("times", 1):
         print(to_json(report(told)), file=sys.stderr, flush=True)
     if story["then"] == "dies":
         os.kill(os.getpid(), KILL)
@@ -77,8 +79,10 @@ def main(path: str, *words: str) -> None:
     told = answer(pairs(project(options)) if story["then"] == "pairs" else story.get("answer", story["tells"][-1]))
     print(to_json(told), flush=True)
     time.sleep(story.get("record", 0))
-    with open(options["--record"], "w") as file:
-        file.write("record 3\n")
+    if "--record" in options:
+        with open(options["--record"], "w") as file:
+            file.write("record 3\n")
+            file.truncate(story.get("bytes", file.tell()))
     sys.exit(0 if told["status"] == "optimal" else 3)
 
 

@@ -8,7 +8,7 @@ from typing import Any
 from psmax.calendars import minutes_of
 from psmax.planner.chart import STYLE, Chart
 from psmax.planner.drawing import Drawing
-from psmax.planner.time_axis import Dates
+from psmax.planner.time_axis import DateAxis
 from psmax.work_time import WorkTime
 
 from .helpers import PROJECTS, InFolder, plan
@@ -101,7 +101,7 @@ class Rulers(unittest.TestCase):
         for first, length, days, width, bands, shades in RULERS:
             with self.subTest(first=first, days=days):
                 calendar = WorkTime(first, **days).calendar()
-                axis = Dates(Drawing("", (), 0, length, (), (), calendar=calendar), calendar, width)
+                axis = DateAxis(Drawing("", (), 0, length, (), (), calendar=calendar), calendar, width)
                 self.assertEqual(["|".join(band.names[0] for band in row) for row in axis.bands()], bands)
                 told = [" ".join(f"{axis.origin + minutes_of(int(place)):%a %H:%M}" for place in (one.begins, one.ends))
                         for one in axis.shades()]

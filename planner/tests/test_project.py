@@ -2,7 +2,7 @@ import unittest
 from dataclasses import replace
 
 from psmax.planner.circles import positive_cycle
-from psmax.project import Arc, Kind, Part, in_order, lags_only, parts, with_lag, within, without
+from psmax.project import Arc, Kind, Part, with_order, lags_only, parts, with_lag, within, without
 from psmax.project_text import ProjectText, parse
 
 from .helpers import EXAMPLES, INPUTS, TWO_JOBS
@@ -61,15 +61,15 @@ class Order(unittest.TestCase):
         """Two jobs of 3 and 4 on one machine keep their order, also where they overlap; on two machines only where they
         do not."""
         project = parse(TWO_JOBS.encode())
-        self.assertEqual(in_order(project, {1: 5, 2: 0}).arcs, (Arc(2, 1, 4),))
-        self.assertEqual(in_order(project, {1: 2, 2: 0}).arcs, (Arc(2, 1, 4),))
+        self.assertEqual(with_order(project, {1: 5, 2: 0}).arcs, (Arc(2, 1, 4),))
+        self.assertEqual(with_order(project, {1: 2, 2: 0}).arcs, (Arc(2, 1, 4),))
         project = replace(project, capacities=(2,))
-        self.assertEqual(in_order(project, {1: 4, 2: 0}).arcs, (Arc(2, 1, 4),))
-        self.assertEqual(in_order(project, {1: 2, 2: 0}).arcs, ())
+        self.assertEqual(with_order(project, {1: 4, 2: 0}).arcs, (Arc(2, 1, 4),))
+        self.assertEqual(with_order(project, {1: 2, 2: 0}).arcs, ())
 
     def test_no_more_arcs_than_the_format_has(self) -> None:
         project = replace(parse(TWO_JOBS.encode()), arcs=(Arc(1, 2, 0),) * 100_000)
-        self.assertEqual(len(in_order(project, {1: 5, 2: 0}).arcs), 100_000)
+        self.assertEqual(len(with_order(project, {1: 5, 2: 0}).arcs), 100_000)
 
 
 class Cycles(unittest.TestCase):

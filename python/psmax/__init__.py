@@ -3,21 +3,25 @@ from importlib import import_module
 from typing import TYPE_CHECKING
 
 if TYPE_CHECKING:
-    from .answer import Answer, Changed, Checked, Float, Progress, Schedule, Span, Status, Violation, ViolationKind
+    from .answer import Answer, Changed, Checked, Float, Progress, Schedule, Span, Status, Violation, ViolationKind, Why
     from .api import Project
-    from .errors import BadInput, Failed, Fault
+    from .errors import BadInput, Failed, Fault, UnknownName, WrongType
+    from .live_search import Search
     from .model import Absence, Activity, Lag, Point, Resource
+    from .project import Goal
     from .record import Proof, Record
     from .whatif import ChangeKind
     from .work_time import WorkTime
 
 __version__ = "1.0.0"  # CONTRIBUTING.md says where else it is spelled
 
-__all__ = ["Absence", "Activity", "Answer", "BadInput", "ChangeKind", "Changed", "Checked", "Failed", "Fault", "Float", "Lag",
-           "Point", "Progress", "Project", "Proof", "Record", "Resource", "Schedule", "Span", "Status", "Violation",
-           "ViolationKind", "WorkTime", "__version__"]
+__all__ = ["Absence", "Activity", "Answer", "BadInput", "ChangeKind", "Changed", "Checked", "Failed", "Fault",
+           "Float", "Goal", "Lag", "Point", "Progress", "Project", "Proof", "Record", "Resource", "Schedule",
+           "Search", "Span", "Status", "UnknownName", "Violation", "ViolationKind", "Why", "WorkTime", "WrongType",
+           "__version__"]
 
-MODULES = ("errors", "work_time", "model", "whatif", "record", "answer", "api")  # in which these are defined
+# In which these are defined.
+MODULES = ("errors", "work_time", "project", "model", "whatif", "record", "answer", "live_search", "api")
 
 
 def __getattr__(name: str) -> object:

@@ -29,20 +29,20 @@ def lose_none(reads: Mapping[str, str], writes: Iterable[str | None], folder: st
             raise BadInput(f"{path} is {what}, and would be lost, since it lies in {folder}, whose files plan names itself")
 
 
-def named(path: str) -> str:
+def input_path(path: str) -> str:
     return STANDARD_INPUT if path == DASH else path
 
 
 def is_there(path: str) -> bool:
-    return os.path.exists(named(path))
+    return os.path.exists(input_path(path))
 
 
 def identity(path: str) -> Identity:
     """By what the system says, links followed. The folder is there."""
     try:
-        told, name = os.stat(named(path)), ""
+        told, name = os.stat(input_path(path)), ""
     except OSError:
-        folder, name = os.path.split(os.path.realpath(named(path)))
+        folder, name = os.path.split(os.path.realpath(input_path(path)))
         told = os.stat(folder)
     return told.st_dev, told.st_ino, name
 
@@ -56,7 +56,7 @@ def lies_in(path: str, folder: str) -> bool:
     """Whether the file, or what its link leads to, is below the folder."""
     if not os.path.isdir(folder):
         return False
-    above, place = os.path.dirname(os.path.realpath(named(path))), os.stat(folder)
+    above, place = os.path.dirname(os.path.realpath(input_path(path))), os.stat(folder)
     while not (os.path.isdir(above) and os.path.samestat(os.stat(above), place)):
         above, before = os.path.dirname(above), above
         if above == before:

@@ -7,25 +7,30 @@ from collections.abc import Sequence
 from dataclasses import dataclass
 
 from .cases import Case, ordinary
-from .project import MOST_UNITS, Arc, Project
+from .project import MOST_UNITS, Arc, Numbers
+from .record_file import RecordFile, new_file
 
 BEGIN = b"record cases 1\n"
 
 
-def record_of(root: Case, starts: Sequence[int] | None) -> bytes:
-    """Empty where some case has no record."""
-    leaves = [*root.leaves()]
-    if not all(leaf.record for leaf in leaves):
-        return b""
+def record_of(root: Case, starts: Sequence[int] | None, folder: str | None) -> RecordFile | None:
+    """A file in this folder; none where some case has no record."""
+    records = [leaf.record for leaf in root.leaves()]
+    if None in records:
+        return None
     head = json.dumps({"cases": [*map(node_of, root.all())], "starts": None if starts is None else [*starts]})
-    return BEGIN + head.encode() + b"\n" + b"".join(leaf.record for leaf in leaves)
+    made = new_file(folder)
+    with open(made.path, "wb") as file:
+        file.write(BEGIN + head.encode() + b"\n")
+        file.writelines(part for record in records if record is not None for part in record.chunks())
+    return made
 
 
 def node_of(case: Case) -> dict[str, int | None]:
     """Of a case that was split: its lag, and the time. Of a leaf: how many bytes its record has, and up to which schedules."""
     if case.split is not None:
         return {"lag": case.split[0], "time": case.split[1]}
-    return {"bytes": len(case.record), "ceiling": case.ceiling}
+    return {"bytes": 0 if case.record is None else case.record.size(), "ceiling": case.ceiling}
 
 
 @dataclass(frozen=True)
@@ -34,7 +39,7 @@ class Leaf:
     ceiling: int | None
     record: bytes
 
-    def ordinary(self, project: Project) -> Project:
+    def ordinary(self, project: Numbers) -> Numbers:
         return ordinary(project, self.arcs, self.ceiling)
 
     def bound(self, proved: int | None) -> float:
@@ -44,7 +49,7 @@ class Leaf:
         return math.inf if self.ceiling is None else self.ceiling + 1
 
 
-def read_cases(data: bytes, project: Project) -> tuple[list[Leaf], tuple[int, ...] | None]:
+def read_cases(data: bytes, project: Numbers) -> tuple[list[Leaf], tuple[int, ...] | None]:
     """The leaves, which have all schedules of the project between them, and the best schedule. What is no record of cases
     raises one of `ODD`."""
     head, _, records = data.removeprefix(BEGIN).partition(b"\n")

@@ -9,16 +9,17 @@ from typing import TYPE_CHECKING
 
 from .dated import DatedLag, broken
 from .errors import TimeUp
-from .outcome import Solved
-from .project import MOST_ARCS, MOST_UNITS, Arc, Project, in_order, least_starts, within
+from .known import Known
+from .project import MOST_ARCS, MOST_UNITS, Arc, Numbers, with_order, least_starts, within
 from .project_text import ProjectText
+from .record_file import RecordFile
 
 if TYPE_CHECKING:
     from .psprove import Limits
 
 PATIENCE = 10_000  # conflicts of a search for a schedule that keeps what the worst of days asks for
 
-Search = Callable[[Project, "Limits", tuple[int, ...] | None, Callable[[Solved], object]], Solved]
+Search = Callable[[Numbers, "Limits", tuple[int, ...] | None, Callable[[Known], object]], Known]
 Check = Callable[[tuple[int, ...]], int | None]  # what is minimized in starts, where they are feasible
 
 
@@ -31,7 +32,7 @@ class Case:
     bound: float = -math.inf  # that the record proves; infinite where there is no schedule
     starts: tuple[int, ...] | None = None  # the best schedule, which may break lags of the project
     is_settled: bool = False
-    record: bytes = b""
+    record: RecordFile | None = None
     split: tuple[int, int] | None = None  # the place of a lag and the time that tell its two cases apart
     cases: list["Case"] = field(default_factory=list)
 
@@ -50,13 +51,14 @@ class Case:
         """Forgets cases that prove no more than the one they were split from, for want of time."""
         for case in reversed([*self.all()]):
             if case.cases:
-                least = min(one.bound for one in case.cases) if all(one.record for one in case.cases) else -math.inf
+                are_proved = all(one.record is not None for one in case.cases)
+                least = min(one.bound for one in case.cases) if are_proved else -math.inf
                 if least < case.bound:
                     case.split, case.cases = None, []
                 case.bound = max(case.bound, least)
 
 
-def ordinary(project: Project, case: Sequence[Arc], ceiling: int | None) -> Project:
+def ordinary(project: Numbers, case: Sequence[Arc], ceiling: int | None) -> Numbers:
     """The ordinary project of a case, which has all of its schedules. Where the case and the ceiling leave few dates, a lag is
     what these allow."""
     plain = replace(project, arcs=(*project.arcs, *case, *by_horizon(project)), dated=())
@@ -69,7 +71,7 @@ def ordinary(project: Project, case: Sequence[Arc], ceiling: int | None) -> Proj
     return replace(limited, arcs=(*limited.arcs, *more))
 
 
-def by_horizon(project: Project) -> list[Arc]:
+def by_horizon(project: Numbers) -> list[Arc]:
     """Arcs by which all ends by a horizon, as some shortest schedule does. Time T is behind all holidays, absences and dates:
     from there on a round R of the calendar, such as a week, is like another. Where an activity starts behind T + R, and R
     after whatever starts before it has ended and holds nothing back any more, it may start R sooner, and so may all that
@@ -89,7 +91,7 @@ def by_horizon(project: Project) -> list[Arc]:
     return [Arc(i, 0, project.durations[i] - horizon) for i in range(1, project.end)]
 
 
-def soonest_starts(project: Project, dated: Sequence[DatedLag]) -> list[int]:
+def soonest_starts(project: Numbers, dated: Sequence[DatedLag]) -> list[int]:
     """No activity starts sooner, by the arcs and the dates of minimum lags."""
     soonest = [*(least_starts(project) or ())]
     for _ in range(2 * len(soonest)):
@@ -104,7 +106,7 @@ def soonest_starts(project: Project, dated: Sequence[DatedLag]) -> list[int]:
     return soonest
 
 
-def latest_starts(project: Project) -> list[float]:
+def latest_starts(project: Numbers) -> list[float]:
     """No activity starts later, by the arcs; infinite where none of them says so."""
     latest: list[float] = [0, *[math.inf] * project.end]
     for _ in latest:
@@ -119,14 +121,14 @@ def latest_starts(project: Project) -> list[float]:
 class CaseSearch:
     """Searches by `search`, which knows ordinary projects alone, and has schedules judged by `check`."""
 
-    def __init__(self, project: Project, search: Search, check: Check, hear: Callable[[Solved], object]) -> None:
+    def __init__(self, project: Numbers, search: Search, check: Check, hear: Callable[[Known], object]) -> None:
         self.project, self.search, self.check, self.hear = project, search, check, hear
         self.value: int | None = None
         self.starts: tuple[int, ...] | None = None
         self.conflicts = 0
         self.root = Case()
 
-    def run(self, left: Callable[[int], "Limits"], start: tuple[int, ...] | None) -> Solved:
+    def run(self, left: Callable[[int], "Limits"], start: tuple[int, ...] | None) -> Known:
         """Until all cases are done or a limit stops it. `left` says which limits are left after so many conflicts."""
         if start is not None:
             self.starts, self.value = start, start[-1]
@@ -166,12 +168,12 @@ class CaseSearch:
         case.starts, case.is_settled, case.record = answer.starts, answer.settled, answer.record
         self.take(answer.starts)
 
-    def bound_of(self, case: Case, told: Solved) -> float:
+    def bound_of(self, case: Case, told: Known) -> float:
         if told.bound is not None:
             return told.bound
         return math.inf if case.ceiling is None else case.ceiling + 1
 
-    def hear_root(self, told: Solved) -> None:
+    def hear_root(self, told: Known) -> None:
         self.root.bound = self.bound_of(self.root, told)
         self.take(told.starts)
         self.tell()
@@ -184,7 +186,7 @@ class CaseSearch:
             self.starts, self.value = starts, starts[-1]
 
     def repaired(self, starts: tuple[int, ...]) -> tuple[int, ...] | None:
-        ordered = in_order(replace(self.project, dated=()), {i: starts[i] for i in range(1, self.project.end)})
+        ordered = with_order(replace(self.project, dated=()), {i: starts[i] for i in range(1, self.project.end)})
         if least_starts(ordered) is None:
             return None
         found = tuple(soonest_starts(ordered, self.project.dated))
@@ -207,8 +209,8 @@ class CaseSearch:
         return None if least == math.inf else int(max(least, trivial))
 
     def tell(self) -> None:
-        self.hear(Solved(self.value, self.starts, self.bound(), 0, b"", self.project.goal, found="by cases"))
+        self.hear(Known(self.project.goal, self.value, self.bound(), self.starts, found="by cases"))
 
-    def answer(self) -> Solved:
+    def answer(self) -> Known:
         self.root.join()
-        return Solved(self.value, self.starts, self.bound(), self.conflicts, b"", self.project.goal)
+        return Known(self.project.goal, self.value, self.bound(), self.starts, conflicts=self.conflicts)

@@ -28,7 +28,9 @@ class Clock:
         self.begun = time.monotonic()
         self.seconds = seconds
         self.stopped = False
+        self.is_in_hurry = False  # what is stopped is killed soon where it does not end
         self.says = says
+        self.waiting: list[Callable[[], None]] = []  # each wakes a thread that waits for a program
 
     def elapsed(self) -> float:
         return time.monotonic() - self.begun
@@ -41,6 +43,12 @@ class Clock:
 
     def stop(self, *_: object) -> None:
         self.stopped = True
+        for wake in [*self.waiting]:
+            wake()
+
+    def cancel(self) -> None:
+        self.is_in_hurry = True
+        self.stop()
 
     def listen(self) -> None:
         """From now on what would end the run stops this clock, and interrupts nothing."""

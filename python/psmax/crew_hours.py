@@ -8,7 +8,7 @@ from .calendars import DAY, Calendar, Days, Shifts, at_midnight, minutes_of
 from .dates import MIDNIGHT, SPAN, read_workdays
 from .errors import BadInput
 from .letters import short
-from .project import MOST_ACTIVITIES, Off, Project
+from .project import MOST_ACTIVITIES, Numbers, Off
 from .serial import serial_end
 
 DAY_SHIFT, NIGHT_SHIFT = "06:00-18:00", "18:00-06:00"  # of two that share a day
@@ -51,7 +51,7 @@ def read_hours(text: str) -> Hours:
     days: list[str] = []
     for part in re.split(r"[,;\s]+", re.sub(r"\s*[-\u2013]\s*", "-", text.strip())):
         found = SPAN.fullmatch(WORDS.get(part.lower(), part))
-        spans += [span_of(*map(int, found.groups()))] if found else []
+        spans += [hour_span(*map(int, found.groups()))] if found else []
         days += [] if found else [part]
     try:
         of_week = read_workdays(",".join(days)) if days else None
@@ -63,7 +63,7 @@ def read_hours(text: str) -> Hours:
     return Hours(text, of_week, tuple(spans) or ((0, MIDNIGHT),))
 
 
-def span_of(begin_hour: int, begin_minute: int, end_hour: int, end_minute: int) -> tuple[int, int]:
+def hour_span(begin_hour: int, begin_minute: int, end_hour: int, end_minute: int) -> tuple[int, int]:
     begins, ends = 60 * begin_hour + begin_minute, 60 * end_hour + end_minute
     if max(begins, ends) > MIDNIGHT or max(begin_minute, end_minute) > 59 or begins == ends:
         raise ValueError(f"{begin_hour:02}:{begin_minute:02}-{end_hour:02}:{end_minute:02} are no hours of a day")
@@ -123,7 +123,7 @@ class Crews:
         return max(time + 1, self.calendar.from_on(self.calendar.begins(time) + days * DAY))
 
 
-def windows(off: Collection[Off], crews: Collection[int], now: int, until: int) -> list[Stretch]:
+def hour_windows(off: Collection[Off], crews: Collection[int], now: int, until: int) -> list[Stretch]:
     """The times, each as long as it may be, at which all of these resources work."""
     found, time = list[Stretch](), now
     for one in sorted((one for one in off if one.resource in crews), key=lambda one: one.begins):
@@ -132,7 +132,7 @@ def windows(off: Collection[Off], crews: Collection[int], now: int, until: int) 
     return found + ([(time, until)] if time < until else [])
 
 
-def with_hours(project: Project, crews: Crews, wanted: int | None) -> Project:
+def with_hours(project: Numbers, crews: Crews, wanted: int | None) -> Numbers:
     """The project with the times outside hours, up to the horizon that is wanted, or to one behind a schedule by
     the minimum lags."""
     if wanted is not None:
@@ -149,7 +149,7 @@ def with_hours(project: Project, crews: Crews, wanted: int | None) -> Project:
     return found
 
 
-def cut_off(project: Project, crews: Crews, horizon: int) -> Project:
+def cut_off(project: Numbers, crews: Crews, horizon: int) -> Numbers:
     try:
         return replace(project, off=crews.off(horizon), horizon=horizon, crews=frozenset(crews.hours))
     except ValueError as fault:
@@ -161,13 +161,13 @@ def of_week(week: Sequence[Sequence[Span]]) -> Hours | None:
     for spans in (week, over_midnight(week)):
         days = [day for day, own in enumerate(spans) if own]
         if len({tuple(spans[day]) for day in days}) == 1:
-            parts = [f"{clock(begins)}-{clock(ends)}" for begins, ends in spans[days[0]]]
+            parts = [f"{clock_text(begins)}-{clock_text(ends)}" for begins, ends in spans[days[0]]]
             text = f"{','.join(NAMES[day] for day in days)} {','.join(parts)}"
             return Hours(text, frozenset(days), tuple(spans[days[0]]))
     return None
 
 
-def clock(minutes: int) -> str:
+def clock_text(minutes: int) -> str:
     """A time of the day, which ends at 24:00."""
     rest = minutes if minutes <= MIDNIGHT else minutes - MIDNIGHT
     return f"{rest // 60:02}:{rest % 60:02}"

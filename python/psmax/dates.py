@@ -70,7 +70,7 @@ def read_moment(text: str, order: str | None = None) -> Moment:
         day, month = int(found[1]), int(found[2])
         year = int(found[3]) + (2000 if len(found[3]) == 2 else 0)
     if found.re is SLASHES:
-        day, month = in_order(day, month, order)
+        day, month = day_and_month(day, month, order)
     try:
         at = datetime.datetime(year, month, day, int(found[4] or 0), int(found[5] or 0))
     except ValueError:
@@ -80,7 +80,7 @@ def read_moment(text: str, order: str | None = None) -> Moment:
     return Moment(at, found[4] is None)
 
 
-def in_order(first: int, second: int, order: str | None) -> tuple[int, int]:
+def day_and_month(first: int, second: int, order: str | None) -> tuple[int, int]:
     """The day and the month of a date with slashes."""
     if order is None and first <= 12 and second <= 12 and first != second:
         raise ValueError("the day or the month may stand first; say which by --dates dmy or --dates mdy")

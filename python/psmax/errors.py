@@ -8,8 +8,16 @@ class Fault(Exception):
         return "; ".join(map(str, self.args))
 
 
-class BadInput(Fault):
+class BadInput(Fault, ValueError):
     """A file, a word of the command or a number that isn't what it should be: exit status 2."""
+
+
+class WrongType(BadInput, TypeError):
+    """An argument of another type than it should have."""
+
+
+class UnknownName(BadInput, KeyError):
+    """A name that nothing of the project has."""
 
 
 class Failed(Fault):

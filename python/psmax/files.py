@@ -11,7 +11,7 @@ from contextlib import contextmanager
 from typing import TextIO
 from weakref import WeakKeyDictionary
 
-from .errors import BadInput, Failed
+from .errors import BadInput, Failed, WrongType
 
 STANDARD_INPUT = "/dev/stdin"  # where an answer comes from that is in no file
 DASH = "-"  # what standard input is called by words of the command
@@ -111,6 +111,18 @@ def decoded(data: bytes) -> str:
         return data.decode("utf-8-sig", "replace")
 
 
+def named_path(path: object) -> str:
+    """The text of a path that a user names."""
+    if not isinstance(path, (str, os.PathLike)):
+        raise WrongType(f"{path!r} is no path")
+    return os.fsdecode(path)
+
+
+def folder_of(path: str | None) -> str | None:
+    """The folder in which the file lies that a path leads to."""
+    return None if path is None else str(pathlib.Path(path).resolve().parent)
+
+
 def must_be_writable(path: str) -> None:
     """Tells before long work is begun that its answer could not be written."""
     target = pathlib.Path(path).resolve()
@@ -126,10 +138,15 @@ def must_be_writable(path: str) -> None:
 def write_whole(path: str, data: bytes) -> None:
     """Writes a file beside it and renames that, so the file is never half written, also where the power fails. A file that is
     replaced hands on its mode."""
+    write_parts(path, [data])
+
+
+def write_parts(path: str, parts: Iterable[bytes]) -> None:
+    """The same of what comes one part after another."""
     must_be_writable(path)
     target = pathlib.Path(path).resolve()
     try:
-        with beside(target, data) as made:
+        with file_beside(target, parts) as made:
             made.replace(target)
             keep_names(target.parent)
     except OSError as fault:
@@ -137,13 +154,13 @@ def write_whole(path: str, data: bytes) -> None:
 
 
 @contextmanager
-def beside(target: pathlib.Path, data: bytes, like: pathlib.Path | None = None) -> Iterator[pathlib.Path]:
+def file_beside(target: pathlib.Path, parts: Iterable[bytes], like: pathlib.Path | None = None) -> Iterator[pathlib.Path]:
     """A file in the same folder, which the disk has, with the mode of the one that it replaces or is like. It is deleted,
     unless it gets another name."""
     with tempfile.NamedTemporaryFile(dir=target.parent, prefix=".plan-", delete=False) as file:
         made = pathlib.Path(file.name)
         try:
-            file.write(data)
+            file.writelines(parts)
             hand_on_mode(like or target, file.fileno())
             file.flush()
             os.fsync(file.fileno())
@@ -199,7 +216,7 @@ def write_new(files: Mapping[str, bytes], like: str | None = None) -> bool:
     made: list[str] = []
     try:
         for path, data in files.items():
-            with beside(pathlib.Path(path), data, pathlib.Path(like) if like is not None else None) as whole:
+            with file_beside(pathlib.Path(path), [data], pathlib.Path(like) if like is not None else None) as whole:
                 put_new(whole, path)
             made.append(path)
         for folder in {os.path.dirname(path) or "." for path in files}:

@@ -1,35 +1,48 @@
 """A project as one writes it in Python, by names: resources, activities and the lags between their starts and ends."""
-import operator
-from collections.abc import Collection, Mapping, Sequence, Sized
-from dataclasses import dataclass, field
+from collections.abc import Collection, Iterator, Mapping, Sequence, Sized
+from dataclasses import dataclass, field, replace
+from typing import Any, TypeVar
 
 from .crew_hours import SPANS, Crews, Hours, with_hours
-from .errors import BadInput
+from .errors import BadInput, UnknownName, WrongType
 from .letters import short
-from .project import MOST_ACTIVITIES, MOST_ARCS, MOST_RESOURCES, MOST_UNITS, Arc, Goal
-from .project import Absence as AbsenceOfNumbers
-from .project import Project as Numbers
+from .periods import Time, time_behind, last_time, length_of, touched_by, whole
+from .project import MOST_ACTIVITIES, MOST_ARCS, MOST_RESOURCES, MOST_UNITS, Arc, Away, Goal, Numbers
 from .work_time import WorkTime
 
 
-@dataclass(frozen=True, eq=False)
+Told = TypeVar("Told")
+
+
+@dataclass(eq=False)
 class Resource:
-    """Something scarce, of which there are so many units at any time."""
+    """Something scarce, of which there are so many units at any time. A new `capacity` is checked; the name stays."""
 
     name: str
     capacity: int
     number: int = field(repr=False)  # among the resources of its project, from 0
+    project: "Parts | None" = field(default=None, repr=False)
+
+    def __setattr__(self, key: str, value: object) -> None:
+        project = vars(self).get("project")
+        super().__setattr__(key, value if project is None else project._checked_of_resource(self, key, value))
 
 
-@dataclass(frozen=True, eq=False)
+@dataclass(eq=False)
 class Activity:
-    """Takes so many periods without a break, and so many units of each resource meanwhile."""
+    """Takes so many periods without a break, and so many units of each resource meanwhile. A new `duration`, new
+    `demands` and a new `due` are checked as `Project.activity` does; the name stays."""
 
     name: str
     duration: int
     demands: Mapping[Resource, int] = field(repr=False)
     number: int = field(repr=False)  # among the activities of its project, from 1
     due: int | None = field(default=None, repr=False)  # when it should have ended
+    project: "Parts | None" = field(default=None, repr=False)
+
+    def __setattr__(self, key: str, value: object) -> None:
+        project = vars(self).get("project")
+        super().__setattr__(key, value if project is None else project._checked_of_activity(self.name, key, value))
 
     @property
     def start(self) -> "Point":
@@ -70,7 +83,11 @@ class Absence:
     resource: Resource
     begins: int
     ends: int | None
-    units: int
+    away: int | None = None  # units; none where all are
+
+    @property
+    def units(self) -> int:
+        return self.resource.capacity if self.away is None else self.away
 
 
 @dataclass(frozen=True)
@@ -80,13 +97,21 @@ class Group:
     name: str
     activities: range  # by their numbers, which stand one after another
 
+    def without(self, number: int) -> "Group":
+        """The same where the activity of this number is gone, and those behind it are counted anew."""
+        first, last = (place - (place > number) for place in (self.activities.start, self.activities.stop))
+        return Group(self.name, range(first, last))
+
 
 class Parts:
-    """The resources, activities, lags and absences of a project. Names are unique, and none is empty."""
+    """The resources, activities, lags and absences of a project. Names are unique, and none is empty. It is a
+    collection of its activities: `len(project)`, `for activity in project`, `"dig" in project`, `project["dig"]` and
+    `del project["dig"]`."""
 
     def __init__(self, name: str = "") -> None:
+        must_be_a(str, name, "a name of a project")
         self.name = name
-        self.work_time: WorkTime | None = None  # which days and hours the periods are, where that is known
+        self._work_time: WorkTime | None = None
         self.resources: list[Resource] = []
         self.activities: list[Activity] = []
         self.lags: list[Lag] = []
@@ -100,6 +125,26 @@ class Parts:
         self._named: dict[str, Activity] = {}
 
     @property
+    def calendar(self) -> WorkTime | None:
+        """Which days and hours the periods are; none where that is not known. Lengths and dates as texts need it."""
+        return self._work_time
+
+    @calendar.setter
+    def calendar(self, value: WorkTime | None) -> None:
+        if value is not None:
+            must_be_a(WorkTime, value, "a WorkTime, such as psmax.WorkTime('2026-03-02', workdays='mon-fri')")
+        self._work_time = value
+
+    @property
+    def work_time(self) -> WorkTime | None:
+        """The name of `calendar` before 1.1."""
+        return self.calendar
+
+    @work_time.setter
+    def work_time(self, value: WorkTime | None) -> None:
+        self.calendar = value
+
+    @property
     def start(self) -> Point:
         """The start of the project, at time 0."""
         return self._source.start
@@ -110,30 +155,39 @@ class Parts:
         return self._sink.start
 
     def resource(self, name: str, capacity: int) -> Resource:
+        """A new resource, with 0 to 1,000,000 units. BadInput where the name is not new or can't be printed, or there
+        are 32 resources already."""
         must_be_new(name, {one.name for one in self.resources}, "resource")
         must_be_room(self.resources, MOST_RESOURCES, "resources")
-        made = Resource(name, whole(capacity, f"the capacity of {name}"), len(self.resources))
+        made = Resource(name, whole(capacity, f"the capacity of {name}"), len(self.resources), self)
         self.resources.append(made)
         return made
 
-    def activity(self, name: str, duration: int, demands: Mapping[Resource, int] | None = None,
-                 due: int | None = None) -> Activity:
+    def activity(self, name: str, duration: int | str, demands: Mapping[Resource, int] | None = None,
+                 due: Time | None = None) -> Activity:
+        """A new activity. The duration is 0 to 1,000,000 whole periods, or where the project has a calendar a length
+        such as '1,5 d'. `demands` has units by resource. `due` is the time by which it should have ended, or a date, at
+        whose end. BadInput where the name is not new, something is out of range, or there are 1,000 activities
+        already."""
         must_be_new(name, self._named, "activity")
         must_be_room(self.activities, MOST_ACTIVITIES, "activities")
-        must_be_a(Mapping, demands or {}, "a mapping from resources to demands")
-        needs = {self._own(resource): whole(units, f"the demand of {name} for {resource.name}")
-                 for resource, units in (demands or {}).items()}
-        made = Activity(name, whole(duration, f"the duration of {name}"), needs, len(self.activities) + 1,
-                        None if due is None else whole(due, f"when {name} is due"))
+        told = {"duration": duration, "demands": {} if demands is None else demands, "due": due}
+        checked = {key: self._checked_of_activity(name, key, value) for key, value in told.items()}
+        made = Activity(name, number=len(self.activities) + 1, project=self, **checked)
         self.activities.append(made)
         self._named[name] = made
         return made
 
-    def lag(self, before: Point, after: Point, *, at_least: int | None = None, at_most: int | None = None) -> Lag:
+    def lag(self, before: Point, after: Point, *, at_least: int | str | None = None,
+            at_most: int | str | None = None) -> Lag:
+        """A new lag: from one point to another at least and at most so many periods pass, each from -1,000,000 to
+        1,000,000, or a length such as '2 d'. A point is the start or the end of an activity or of the project. BadInput
+        where no limit is said, or a point is none of this project."""
         for point in (before, after):
             must_be_a(Point, point, "a start or an end")
             self.number(point.activity)
-        limits = [None if limit is None else whole(limit, "a lag", -MOST_UNITS) for limit in (at_least, at_most)]
+        limits = [None if limit is None else length_of(limit, "a lag", self.calendar, -MOST_UNITS)
+                  for limit in (at_least, at_most)]
         if limits == [None, None]:
             raise BadInput("a lag has a least length, a greatest one, or both")
         made = Lag(before, after, *limits)
@@ -141,21 +195,69 @@ class Parts:
         self.lags.append(made)
         return made
 
-    def absence(self, resource: Resource, begins: int, ends: int | None = None, units: int | None = None) -> Absence:
-        """Units of a resource that are away; without `units` all of them."""
+    def absence(self, resource: Resource, begins: Time, ends: Time | None = None, units: int | None = None) -> Absence:
+        """Units of a resource that are away from one time until another, or from a first day to a last one; without
+        `ends` for ever, and without `units` all of them. BadInput where it ends before it begins, or more are away than
+        there are."""
         self._own(resource)
-        away = whole(resource.capacity if units is None else units, f"what is away of {resource.name}", 1, resource.capacity)
-        begins = whole(begins, f"when {resource.name} is away")
-        made = Absence(resource, begins, None if ends is None else
-                       whole(ends, f"until when {resource.name} is away", begins + 1), away)
-        must_be_there([*(one for one in self.absences if one.resource is resource), made])
+        away = None if units is None else whole(units, f"what is away of {resource.name}", 1, resource.capacity)
+        first = touched_by(begins, f"when {resource.name} is away", self.calendar)
+        until = f"until when {resource.name} is away"
+        last = None if ends is None else time_behind(ends, until, self.calendar, first + 1)
+        made = Absence(resource, first, last, away)
+        must_be_enough([*(one for one in self.absences if one.resource is resource), made])
         self.absences.append(made)
         return made
 
+    def __len__(self) -> int:
+        return len(self.activities)
+
+    def __iter__(self) -> Iterator[Activity]:
+        return iter(self.activities)
+
+    def __contains__(self, one: object) -> bool:
+        """Whether an activity, or one of this name, is one of the project."""
+        return one in self._named if isinstance(one, str) else one in self.activities
+
     def __getitem__(self, name: str) -> Activity:
+        must_be_a(str, name, "the name of an activity")
         if name not in self._named:
-            raise BadInput(f"no activity '{short(name)}'")
+            raise UnknownName(f"no activity '{short(name)}'")
         return self._named[name]
+
+    def __delitem__(self, one: str | Activity) -> None:
+        """Without the activity, its lags, and what else is said of it."""
+        gone = self[one] if isinstance(one, str) else one
+        number = self.number(gone)
+        if gone not in self.activities:
+            raise BadInput("the start and the end of the project stay")
+        self.lags = [lag for lag in self.lags if gone not in (lag.before.activity, lag.after.activity)]
+        del self.activities[number - 1], self._named[gone.name]
+        for later_one in self.activities[number - 1 :]:
+            vars(later_one)["number"] -= 1
+        self.ids, self.started = without_number(self.ids, number), without_number(self.started, number)
+        self.groups = [left for left in (group.without(number) for group in self.groups) if left.activities]
+        vars(gone)["project"] = None
+
+    def _checked_of_activity(self, name: str, key: str, value: Any) -> Any:
+        """What a field of an activity becomes."""
+        if key == "duration":
+            return length_of(value, f"the duration of {name}", self.calendar)
+        if key == "due":
+            return None if value is None else last_time(value, f"when {name} is due", self.calendar)
+        if key == "demands":
+            must_be_a(Mapping, value, "a mapping from resources to demands")
+            return {self._own(resource): whole(units, f"the demand of {name} for {resource.name}")
+                    for resource, units in value.items()}
+        raise AttributeError(f"the {key} of an activity stays as it is")
+
+    def _checked_of_resource(self, one: Resource, key: str, value: object) -> int:
+        """What a field of a resource becomes. Where fewer are there than are away, nothing does."""
+        if key != "capacity":
+            raise AttributeError(f"the {key} of a resource stays as it is")
+        units, own = whole(value, f"the capacity of {one.name}"), [each for each in self.absences if each.resource is one]
+        must_be_enough([replace(each, away=units if each.away is None else each.away) for each in own], units)
+        return units
 
     def number(self, activity: Activity) -> int:
         """The number of an activity of this project, with its start and its end."""
@@ -195,7 +297,7 @@ class Parts:
     def numbers(self, minimize: str = Goal.MAKESPAN.value) -> Numbers:
         """The project as numbers, for the programs."""
         arcs = [arc for arc, _ in self.arcs()]
-        must_be_possible(arcs)
+        must_fit_text(arcs)
         all_of_it = [self._source, *self.activities, self._sink]
         rows = (tuple(one.demands.get(resource, 0) for resource in self.resources) for one in all_of_it)
         due = {one.number: one.due for one in self.activities if one.due is not None}
@@ -204,8 +306,7 @@ class Parts:
             self._must_have_lateness()
         found = Numbers(
             (0, *(one.duration for one in self.activities), 0), tuple(rows), tuple(one.capacity for one in self.resources),
-            tuple(arcs), tuple(AbsenceOfNumbers(one.resource.number, one.begins, one.ends, one.units) for one in self.absences),
-            due, goal)
+            tuple(arcs), tuple(Away(one.resource.number, one.begins, one.ends, one.units) for one in self.absences), due, goal)
         crews = self.crews()
         return found if crews is None else with_hours(found, crews, None)
 
@@ -217,9 +318,10 @@ class Parts:
 
     def crews(self) -> Crews | None:
         """The resources with hours of their own; none where there is no such resource."""
-        if not self.hours or self.work_time is None:
+        if not self.hours or self.calendar is None:
             return None
-        return Crews({one.number: hours for one, hours in self.hours.items()}, self.work_time.calendar(), self.status or 0)
+        hours = {one.number: own for one, own in self.hours.items()}
+        return Crews(hours, self.calendar.calendar(), self.status or 0)
 
 
 def goal_of(minimize: str) -> Goal:
@@ -229,15 +331,21 @@ def goal_of(minimize: str) -> Goal:
         raise BadInput(f"minimize {short(str(minimize))}: neither {' nor '.join(goal.value for goal in Goal)}") from None
 
 
-def must_be_a(kind: type, value: object, what: str) -> None:
+def without_number(told: dict[int, Told], gone: int) -> dict[int, Told]:
+    """The same without what is said of this number; those behind it are counted anew."""
+    return {number - (number > gone): value for number, value in told.items() if number != gone}
+
+
+def must_be_a(kind: type | tuple[type, ...], value: object, what: str) -> None:
     if not isinstance(value, kind):
-        raise BadInput(f"'{short(str(value))}' is not {what}")
+        raise WrongType(f"'{short(str(value))}' is not {what}")
 
 
 def must_be_new(name: str, there: Collection[str], what: str) -> None:
     if not isinstance(name, str) or not name.strip() or not name.isprintable():
+        kind = BadInput if isinstance(name, str) else WrongType
         article = "an" if what.startswith("a") else "a"
-        raise BadInput(f"the name of {article} {what} is not a text that can be printed: {short(repr(name))}")
+        raise kind(f"the name of {article} {what} is not a text that can be printed: {short(repr(name))}")
     if name in there:
         raise BadInput(f"a second {what} '{short(name)}'")
 
@@ -247,29 +355,18 @@ def must_be_room(there: Sized, most: int, what: str) -> None:
         raise BadInput(f"a project has at most {most:,} {what}")
 
 
-def must_be_there(absences: Sequence[Absence]) -> None:
+def must_be_enough(absences: Sequence[Absence], capacity: int | None = None) -> None:
     """No more units of a resource are away at once than there are."""
     for time in sorted({one.begins for one in absences}):
         away = sum(one.units for one in absences if one.begins <= time and (one.ends is None or time < one.ends))
-        if away > absences[0].resource.capacity:
-            raise BadInput(f"{away} of {absences[0].resource.name} are away at {time}, and there are "
-                           f"{absences[0].resource.capacity}")
+        there = absences[0].resource.capacity if capacity is None else capacity
+        if away > there:
+            raise BadInput(f"{away} of {absences[0].resource.name} are away at {time}, and there are {there}")
 
 
-def must_be_possible(arcs: list[Arc]) -> None:
+def must_fit_text(arcs: list[Arc]) -> None:
     far = next((arc.lag for arc in arcs if abs(arc.lag) > MOST_UNITS), None)
     if far is not None:
         raise BadInput(f"a lag from start to start of {far:,} is needed, and one has at most {MOST_UNITS:,}")
     if len(arcs) > MOST_ARCS:
         raise BadInput(f"a project has at most {MOST_ARCS:,} lags")
-
-
-def whole(value: object, what: str, least: int = 0, most: int = MOST_UNITS) -> int:
-    """A whole number of any type that counts as one."""
-    try:
-        number = operator.index(value)  # type: ignore[arg-type]
-    except TypeError:
-        number = least - 1
-    if isinstance(value, bool) or not least <= number <= most:
-        raise BadInput(f"{what}: {short(repr(value))} is not a whole number from {least:,} to {most:,}")
-    return number

@@ -61,10 +61,10 @@ def keep_limits() -> None:
     signal.alarm(PATIENCE)
     for what, most in ((resource.RLIMIT_CPU, seconds() + SECONDS), (resource.RLIMIT_AS, memory() + MEMORY),
                        (resource.RLIMIT_CORE, 0)):
-        limit(what, most)
+        set_limit(what, most)
 
 
-def limit(what: int, most: int) -> None:
+def set_limit(what: int, most: int) -> None:
     """At most so much, and no more than before."""
     hard = resource.getrlimit(what)[1]
     resource.setrlimit(what, (most if hard == resource.RLIM_INFINITY else min(most, hard), hard))

@@ -5,19 +5,20 @@ import os
 import pathlib
 import re
 import shutil
-import subprocess
 import tempfile
 import time
+from collections import deque
 from collections.abc import Callable, Iterator, Sequence
 from contextlib import contextmanager
 from typing import IO
 
 from .clock import Clock
 from .errors import BadInput, Failed, TimeUp
-from .process import Lines, Process, tied
+from .process import Process
 
 SECONDS = 600.0  # the most that a program may take for an answer that no search is needed for
 Given = bytes | pathlib.Path | None  # what a program reads: bytes, a file, or nothing as long as this process runs
+MOST_LINES = 1_000  # of what a program tells that are kept for a fault
 INSIDE = "bin"  # the folder of the programs in the package, where it was installed from a wheel
 
 
@@ -57,13 +58,13 @@ def given_file(given: Given) -> Iterator[IO[bytes]]:
 
 
 class Program:
-    """Calls one of the programs until the clock is stopped. `project` is what its project is called in faults."""
+    """Calls one of the programs until the clock is stopped. `project` is what its project is called in faults. Records
+    lie in the folder, where one is named, while they are written."""
 
     name: str
 
-    def __init__(self, clock: Clock, project: str = "the project") -> None:
-        self.clock = clock
-        self.project = project
+    def __init__(self, clock: Clock, project: str = "the project", folder: str | None = None) -> None:
+        self.clock, self.project, self.folder = clock, project, folder
         self.path = find_program(self.name)
 
     def version(self) -> str:
@@ -75,21 +76,27 @@ class Program:
 
     def call(self, arguments: Sequence[str], given: Given, seconds: float = SECONDS,
              hear: Callable[[str], None] = lambda line: None, until: str | None = None) -> tuple[int, bytes]:
-        """The exit status of a call that answered within these seconds, and its output, or else what it told. Each line
-        that it tells is heard, and one of JSON is no fault. The file `until` asks it to end."""
-        status, out, told = self._run(arguments, given, seconds, hear, until)
-        told = b"".join(line for line in told.splitlines(True) if not line.startswith(b"{"))
-        lines = told.decode("utf-8", "replace").strip().splitlines()
-        text = lines[-1].removeprefix(f"{self.name}: ") if lines else ""
-        if status == 2 and lines and lines[-1].startswith(f"{self.name}: "):
+        """The exit status of a call that answered within these seconds, and its output, or else the last that it told.
+        Each line that it tells is heard, and one of JSON is no fault. The file `until` asks it to end."""
+        lines: deque[str] = deque(maxlen=MOST_LINES)
+
+        def told(line: str) -> None:
+            if not line.startswith("{"):
+                lines.append(line)
+            hear(line)
+
+        status, out = self._run(arguments, given, seconds, told, until)
+        faults = [line for line in lines if line.strip()]
+        text = faults[-1].removeprefix(f"{self.name}: ") if faults else ""
+        if status == 2 and faults and faults[-1].startswith(f"{self.name}: "):
             raise BadInput(f"{self.project}: {text}")
         if status < 0:
             raise Failed(f"{self.name} {arguments[0]} was ended by signal {-status}")
         if status in (0, 3, 4):
-            return status, out or told
+            return status, out or "\n".join(faults).encode()
         raise Failed(f"{self.name} {arguments[0]} failed, exit status {status}" + (f": {text}" if text else ""))
 
-    def judge(self, command: str, project: bytes, given: bytes, seconds: float = SECONDS) -> tuple[int, bytes]:
+    def judge(self, command: str, project: bytes, given: Given, seconds: float = SECONDS) -> tuple[int, bytes]:
         """A call of a command that takes the project as a file, and is given what it has to judge."""
         with tempfile.TemporaryDirectory(prefix="plan-") as folder:
             path = os.path.join(folder, "project.sch")
@@ -97,42 +104,36 @@ class Program:
                 file.write(project)
             return self.call([command, "--project", path], given, seconds)
 
-    def verify(self, project: bytes, record: bytes) -> tuple[int, str]:
+    def verify(self, project: bytes, record: Given) -> tuple[int, str]:
         """The exit status, and what the record proves of the project, or its first fault. A long one may take as long as the
         search did."""
         status, out = self.judge("verify", project, record, math.inf)
         return status, out.decode("utf-8", "replace").strip().removeprefix(f"{self.name}: ")
 
     def _run(self, arguments: Sequence[str], given: Given, seconds: float, hear: Callable[[str], None],
-             until: str | None) -> tuple[int, bytes, bytes]:
+             until: str | None) -> tuple[int, bytes]:
         if self.clock.stopped:
             raise TimeUp
-        with given_file(given) as source, tempfile.TemporaryFile() as out, tempfile.TemporaryFile() as told:
-            try:
-                child = subprocess.Popen(tied([self.path, *arguments]), stdin=source, stdout=out, stderr=told,
-                                         start_new_session=True)
-            except OSError as fault:
-                raise Failed(f"cannot start {self.path}: {fault.strerror}") from None
-            running, lines = Process(child, out, until), Lines(told)
-            atexit.register(running.end)
-            try:
-                has_ended = self._wait(running, lines, time.monotonic() + seconds, hear)
-            finally:
-                atexit.unregister(running.end)
-                running.kill()
-            for line in lines.new():
-                hear(line)
-            if not has_ended:
-                raise TimeUp(f"{self.name} {arguments[0]} did not end in time, and was killed")
+        with given_file(given) as source, tempfile.TemporaryFile() as out:
+            with self._started(arguments, source, out, until) as running:
+                if not running.run(time.monotonic() + seconds, hear):
+                    raise TimeUp(f"{self.name} {arguments[0]} did not end in time, and was killed")
             out.seek(0)
-            told.seek(0)
-            return child.returncode, out.read(), told.read()
+            return running.child.returncode, out.read()
 
-    def _wait(self, running: Process, lines: Lines, end: float, hear: Callable[[str], None]) -> bool:
-        """Hears lines as they come. Whether the program has ended by itself, or when it was asked to."""
-        while not running.has_ended():
-            if (self.clock.stopped or time.monotonic() > end) and not running.ask():
-                return False
-            for line in lines.new():
-                hear(line)
-        return True
+    @contextmanager
+    def _started(self, arguments: Sequence[str], source: IO[bytes], out: IO[bytes],
+                 until: str | None) -> Iterator[Process]:
+        """The program, which has ended behind this, whatever comes between."""
+        try:
+            running = Process([self.path, *arguments], source, out, until, self.clock)
+        except OSError as fault:
+            raise Failed(f"cannot start {self.path}: {fault.strerror}") from None
+        atexit.register(running.end)
+        self.clock.waiting.append(running.wake)
+        try:
+            yield running
+        finally:
+            atexit.unregister(running.end)
+            self.clock.waiting.remove(running.wake)
+            running.close()

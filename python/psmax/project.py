@@ -2,7 +2,7 @@
 from collections import deque
 from collections.abc import Collection, Mapping, Sequence
 from dataclasses import dataclass, field, replace
-from enum import Enum
+from enum import Enum, StrEnum
 from itertools import combinations
 from typing import TYPE_CHECKING, NamedTuple
 
@@ -23,7 +23,7 @@ class Arc(NamedTuple):
     lag: int
 
 
-class Absence(NamedTuple):
+class Away(NamedTuple):
     """Units of a resource that are away from one time until another; until ever where there is none."""
 
     resource: int
@@ -40,7 +40,7 @@ class Off(NamedTuple):
     ends: int
 
 
-class Goal(Enum):
+class Goal(StrEnum):
     """What is minimized: when the last activity ends, or how late the latest is behind its due date."""
 
     MAKESPAN = "makespan"
@@ -66,14 +66,14 @@ class Part(NamedTuple):
 
 
 @dataclass(frozen=True)
-class Project:
+class Numbers:
     """The start of its end is what is minimized: the makespan, or the greatest lateness, which may be below 0."""
 
     durations: tuple[int, ...]  # of the activities 0, the start, to n + 1, the end
     demands: tuple[tuple[int, ...], ...]
     capacities: tuple[int, ...]
     arcs: tuple[Arc, ...]
-    absences: tuple[Absence, ...] = ()
+    absences: tuple[Away, ...] = ()
     due: Mapping[int, int] = field(default_factory=dict)  # when activities should have ended
     goal: Goal = Goal.MAKESPAN
     dated: tuple["DatedLag", ...] = ()  # what some of the arcs, which every date allows, are on each date
@@ -126,7 +126,7 @@ class Project:
         return sum(one.units for one in self.absences if one.resource == resource and one.begins <= time
                    and (one.ends is None or time < one.ends))
 
-    def all_absences(self) -> tuple[Absence, ...]:
+    def all_absences(self) -> tuple[Away, ...]:
         """The absences, and behind them what else is away outside the hours of resources."""
         if not self.off:
             return self.absences
@@ -135,10 +135,10 @@ class Project:
             marks.setdefault(one.resource, []).extend(time for time in (one.begins, one.ends) if time is not None)
         return (*self.absences, *(part for off in self.off for part in self.left_of(off, marks.get(off.resource, []))))
 
-    def left_of(self, off: Off, marks: Sequence[int]) -> list[Absence]:
+    def left_of(self, off: Off, marks: Sequence[int]) -> list[Away]:
         """What is away for a time outside of hours, besides absences, which change at these marks."""
         times = [off.begins, *sorted({time for time in marks if off.begins < time < off.ends}), off.ends]
-        parts = [Absence(off.resource, begins, ends, self.capacities[off.resource] - self.absent(off.resource, begins))
+        parts = [Away(off.resource, begins, ends, self.capacities[off.resource] - self.absent(off.resource, begins))
                  for begins, ends in zip(times, times[1:])]
         return [one for one in parts if one.units]
 
@@ -150,7 +150,7 @@ class Project:
                 and self.durations[i] and any(self.demands[i][k] for k in self.crews)]
 
 
-def in_order(project: Project, old: Mapping[int, int]) -> Project:
+def with_order(project: Numbers, old: Mapping[int, int]) -> Numbers:
     """The project in which activities that can't run at once, or that need the same and didn't run at once by old starts,
     keep their order, the nearest first where the format has no room for all."""
     arcs = [Arc(i, j, project.durations[i]) for i, j in combinations(sorted(old, key=old.__getitem__), 2)
@@ -160,12 +160,12 @@ def in_order(project: Project, old: Mapping[int, int]) -> Project:
     return replace(project, arcs=(*project.arcs, *arcs)[:MOST_ARCS])
 
 
-def are_rivals(project: Project, i: int, j: int) -> bool:
+def are_rivals(project: Numbers, i: int, j: int) -> bool:
     """Whether both together need more of some resource than there is."""
     return any(a + b > units for a, b, units in zip(project.demands[i], project.demands[j], project.capacities))
 
 
-def within(project: Project, deadline: int) -> Project | None:
+def within(project: Numbers, deadline: int) -> Numbers | None:
     """The project whose end starts by the deadline: one arc more, from the end to the start. None where the format
     has no such arc: its lag would be too large, or there are as many arcs already as may be."""
     is_late = deadline < 0 and project.goal is Goal.MAKESPAN
@@ -174,7 +174,7 @@ def within(project: Project, deadline: int) -> Project | None:
     return replace(project, arcs=(*project.arcs, Arc(project.end, 0, -deadline)))
 
 
-def parts(project: Project) -> list[Part]:
+def parts(project: Numbers) -> list[Part]:
     """Each resource, each absence, and each lag that is a greatest one. A lag of 0 after the end of a milestone is a least
     one."""
     lags = [place for place, (tail, head, lag) in enumerate(project.arcs) if tail != head
@@ -184,7 +184,7 @@ def parts(project: Project) -> list[Part]:
             *(Part(Kind.LAG, place) for place in lags)]
 
 
-def without(project: Project, gone: Collection[Part]) -> Project:
+def without(project: Numbers, gone: Collection[Part]) -> Numbers:
     """The project with fewer parts: each schedule of it is one of this project too."""
     arcs = tuple(arc for place, arc in enumerate(project.arcs) if Part(Kind.LAG, place) not in gone)
     kept = [k for k in range(len(project.capacities)) if Part(Kind.RESOURCE, k) not in gone]
@@ -197,31 +197,31 @@ def without(project: Project, gone: Collection[Part]) -> Project:
     return replace(with_arcs(project, arcs), demands=demands, capacities=capacities, absences=absences, off=off, crews=crews)
 
 
-def with_lag(project: Project, place: int, lag: int) -> Project:
+def with_lag(project: Numbers, place: int, lag: int) -> Numbers:
     """The project with another lag for one of its arcs."""
     arcs = [*project.arcs]
     arcs[place] = arcs[place]._replace(lag=lag)
     return with_arcs(project, tuple(arcs))
 
 
-def with_arcs(project: Project, arcs: tuple[Arc, ...]) -> Project:
+def with_arcs(project: Numbers, arcs: tuple[Arc, ...]) -> Numbers:
     """The project with other arcs, in which what is no arc any more has no dates either."""
     return replace(project, arcs=arcs, dated=tuple(one for one in project.dated if one.arc in arcs))
 
 
-def too_needy(project: Project) -> list[int]:
+def too_needy(project: Numbers) -> list[int]:
     """The activities that need more of some resource than there is."""
     inner = range(1, project.end)
     return [i for i in inner if any(need > units for need, units in zip(project.demands[i], project.capacities))]
 
 
-def lags_only(project: Project, arcs: list[Arc]) -> Project:
+def lags_only(project: Numbers, arcs: list[Arc]) -> Numbers:
     """As many activities, without duration or demand, and these arcs alone."""
     count = len(project.durations)
-    return Project((0,) * count, ((),) * count, (), tuple(arcs))
+    return Numbers((0,) * count, ((),) * count, (), tuple(arcs))
 
 
-def least_starts(project: Project) -> list[int] | None:
+def least_starts(project: Numbers) -> list[int] | None:
     """The least start of each activity by the lags alone; none where they contradict each other: then the start of the
     project has to be later, or an activity is put later more often than there are activities."""
     leaving = by_tail(project)
@@ -241,7 +241,7 @@ def least_starts(project: Project) -> list[int] | None:
     return [int(start) for start in least]
 
 
-def by_tail(project: Project) -> list[list[Arc]]:
+def by_tail(project: Numbers) -> list[list[Arc]]:
     """The rules that leave each activity."""
     found: list[list[Arc]] = [[] for _ in project.durations]
     for arc in project.rules():
@@ -249,6 +249,6 @@ def by_tail(project: Project) -> list[list[Arc]]:
     return found
 
 
-def least_end(project: Project, starts: Mapping[int, int]) -> int:
+def least_end(project: Numbers, starts: Mapping[int, int]) -> int:
     """The least start of the end that the starts of the others leave."""
     return max([starts[arc.tail] + arc.lag for arc in project.rules() if arc.head == project.end and arc.tail in starts])

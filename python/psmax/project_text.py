@@ -11,7 +11,7 @@ from dataclasses import dataclass
 from functools import cached_property
 
 from .errors import BadInput
-from .project import MOST_ACTIVITIES, MOST_ARCS, MOST_UNITS, Arc, Goal, Project, least_starts
+from .project import MOST_ACTIVITIES, MOST_ARCS, MOST_UNITS, Arc, Goal, Numbers, least_starts
 
 WORD = re.compile(rb"[^ \t\r\n\[\]]+")  # a longest run of bytes that are no blanks
 
@@ -68,7 +68,7 @@ def layout(values: Sequence[int]) -> Iterator[Place]:
         yield Place("capacity", resource=resource)
 
 
-def parse(data: bytes) -> Project:
+def parse(data: bytes) -> Numbers:
     """The project of a text that psmax has read; any other text may raise any error."""
     values = [int(word.text) for word in words(data)]
     found: dict[str, list[int]] = {"duration": [], "demand": [], "capacity": []}
@@ -80,11 +80,11 @@ def parse(data: bytes) -> Project:
             found[place.kind].append(value)
     count, resources = values[0] + 2, values[1]
     demands = [tuple(found["demand"][i * resources : (i + 1) * resources]) for i in range(count)]
-    return Project(tuple(found["duration"]), tuple(demands), tuple(found["capacity"]), tuple(arcs))
+    return Numbers(tuple(found["duration"]), tuple(demands), tuple(found["capacity"]), tuple(arcs))
 
 
 class ProjectText:
-    def __init__(self, project: Project) -> None:
+    def __init__(self, project: Numbers) -> None:
         self.project = project
         self.hidden = project.all_absences()
         self.end = project.end + len(self.hidden)  # of the text: absences stand before it

@@ -7,21 +7,22 @@ from dataclasses import dataclass, replace
 from typing import NamedTuple
 
 from .errors import Failed
-from .outcome import ODD, Solved, of_answer
+from .known import ODD, Known, of_answer
 from .programs import Program
-from .project import Arc, Goal, Project
+from .project import Arc, Goal, Numbers
 from .project_text import ProjectText
+from .record_file import new_file
 
 
 @dataclass(frozen=True)
-class Checked:
+class Judgement:
     """What is minimized where the starts are a feasible schedule, and otherwise every violation."""
 
     value: int | None
-    violations: tuple["Violation", ...]
+    violations: tuple["Breach", ...]
 
 
-class Violation(NamedTuple):
+class Breach(NamedTuple):
     """A start of activity 0 that isn't 0; a lag that isn't kept, as its arc; one in calendar days, by its place; an overload: a
     time, a resource, a use; or an activity that ends when the hours of a resource are not known any more."""
 
@@ -33,7 +34,7 @@ class Psmax(Program):
     name = "psmax"
     asked: ProjectText | None = None  # the project of the last check, of which there may be many
 
-    def earliest(self, project: Project) -> int | None:
+    def earliest(self, project: Numbers) -> int | None:
         """What is minimized, by the lags alone; none where they contradict each other."""
         spelled = ProjectText(project)
         found = self.earliest_of_text(spelled.text)
@@ -50,14 +51,14 @@ class Psmax(Program):
             raise self.odd("earliest")
         return tuple(int(line.split()[1]) for line in out.splitlines()[1:]) or None
 
-    def solve(self, project: Project, nodes: int, workers: int | None, start: tuple[int, ...] | None = None) -> Solved:
+    def solve(self, project: Numbers, nodes: int, workers: int | None, start: tuple[int, ...] | None = None) -> Known:
         """A search of so many nodes, until the clock is over, from starts that are feasible where there are some. Without
         workers it goes depth first, and has neither a start nor a record."""
-        spelled = ProjectText(project)
-        with tempfile.TemporaryDirectory(prefix="plan-") as folder:
-            record, first = os.path.join(folder, "record"), os.path.join(folder, "start")
+        spelled, record = ProjectText(project), None if workers is None else new_file(self.folder)
+        with tempfile.TemporaryDirectory(prefix="plan-") as own:
+            first = os.path.join(own, "start")
             arguments = ["solve", "--json", "--nodes", f"{nodes}"]
-            arguments += [] if workers is None else ["--workers", f"{workers}", "--record", record]
+            arguments += [] if record is None else ["--workers", f"{workers}", "--record", record.path]
             if start is not None:
                 with open(first, "wb") as file:
                     file.write(starts_text(spelled.inward(start)))
@@ -68,36 +69,36 @@ class Psmax(Program):
             except ODD:
                 raise self.odd("solve") from None
 
-    def check(self, project: Project, starts: tuple[int, ...]) -> Checked:
+    def check(self, project: Numbers, starts: tuple[int, ...]) -> Judgement:
         """What psmax says of the starts. Whatever is minimized, a schedule is feasible by its lags and resources. Lags in
         calendar days are kept or not by their dates."""
         if project.horizon is not None:
             known = self.check(replace(project, horizon=None), starts)
-            late = [Violation("horizon", (activity,)) for activity in project.beyond(starts)]
-            return Checked(None, (*known.violations, *late)) if late else known
+            late = [Breach("horizon", (activity,)) for activity in project.beyond(starts)]
+            return Judgement(None, (*known.violations, *late)) if late else known
         if project.dated:
             known = self.check(replace(project, dated=()), starts)
-            late = [Violation("dated", (place,)) for place, one in enumerate(project.dated) if one.slack(starts) < 0]
+            late = [Breach("dated", (place,)) for place, one in enumerate(project.dated) if one.slack(starts) < 0]
             arcs = {project.dated[one.numbers[0]].arc for one in late}
             rest = [one for one in known.violations if one.kind != "lag" or Arc(*one.numbers) not in arcs]
-            return Checked(None, (*rest, *late)) if late else known
+            return Judgement(None, (*rest, *late)) if late else known
         if project.goal is Goal.LATENESS:
             known = self.check(replace(project, goal=Goal.MAKESPAN), project.plain(starts))
-            return known if known.value is None else Checked(starts[-1], ())
+            return known if known.value is None else Judgement(starts[-1], ())
         if self.asked is None or self.asked.project != project:
             self.asked = ProjectText(project)
         spelled = self.asked
         status, out = self.judge("check", spelled.text, starts_text(spelled.inward(starts)))
         found = re.fullmatch(rb"feasible (-?\d+)\n", out)
         if status == 0 and found is not None:
-            return Checked(starts[-1], ())
+            return Judgement(starts[-1], ())
         if status == 4 and out:
             lines = out.decode("utf-8", "replace").splitlines()
-            return Checked(None, tuple(violation(line, spelled) for line in lines))
+            return Judgement(None, tuple(violation(line, spelled) for line in lines))
         raise self.odd("check")
 
 
-def violation(line: str, spelled: ProjectText) -> Violation:
+def violation(line: str, spelled: ProjectText) -> Breach:
     """A line of `check`, in the numbers of the project."""
     found = re.fullmatch(r"(start|lag|overload)((?: -?\d+)+)", line)
     numbers = tuple(int(word) for word in found[2].split()) if found else ()
@@ -107,7 +108,7 @@ def violation(line: str, spelled: ProjectText) -> Violation:
         tail, head, lag = numbers
         lag += (spelled.offset if tail == spelled.end else 0) - (spelled.offset if head == spelled.end else 0)
         numbers = (spelled.shown(tail), spelled.shown(head), lag)
-    return Violation(found[1], numbers)
+    return Breach(found[1], numbers)
 
 
 def starts_text(starts: Sequence[int], first: str = "") -> bytes:

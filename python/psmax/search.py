@@ -12,7 +12,7 @@ from types import MappingProxyType
 from .clock import tell
 from .errors import TimeUp
 from .incumbent import Incumbent
-from .project import MOST_ARCS, Arc, Project, in_order
+from .project import MOST_ARCS, Arc, Numbers, with_order
 from .psmax import Psmax
 from .psprove import Limits, Psprove
 
@@ -24,70 +24,69 @@ GROWTH = 10  # each one takes so many times the nodes of the one before
 MOST = 1_000_000  # nodes of the last slice, which stay in memory: a million take some 1,600 MB
 
 
-def search(project: Project, psprove: Psprove, known: Incumbent, jobs: int, old: Mapping[int, int] = NOTHING,
+def search(project: Numbers, psprove: Psprove, best: Incumbent, limits: Limits, old: Mapping[int, int] = NOTHING,
            called: str = "") -> None:
-    """A search by psprove, near to old starts where there are some; what is known stands in `known`."""
-    if known.starts is None and old:
-        repair(psprove, known, project, old, called)
+    """A search by psprove until the clock is over, near to old starts where there are some; what is known stands in
+    `best`."""
+    if best.known.starts is None and old:
+        repair(psprove, best, project, old, called)
     clock = psprove.clock
-    limits = Limits(clock.left(), jobs)
+    limits = replace(limits, seconds=clock.left())
     try:
-        answer = psprove.solve(project, limits, known.starts, known.hear)
-        known.learn(answer, " ".join(["psprove solve", *limits.arguments()]))
+        answer = psprove.solve(project, limits, best.known.starts, best.hear)
+        best.learn(answer, " ".join(["psprove solve", *limits.arguments()]))
     except TimeUp as fault:
         if fault.args:
             tell(clock, f"{fault}: what it told stands, without a record")
-    if not known.settled and clock.over():
+    if not best.known.settled and clock.over():
         tell(clock, clock.why_over())
 
 
-def repair(psprove: Psprove, known: Incumbent, project: Project, old: Mapping[int, int], called: str) -> None:
+def repair(psprove: Psprove, best: Incumbent, project: Numbers, old: Mapping[int, int], called: str) -> None:
     """A schedule like old starts, without a search; else by a search of the first of the orders that has one."""
     from .serial import near
     starts = near(project, old)
     if starts is not None and Psmax(psprove.clock, psprove.project).check(project, starts).value is not None:
-        return known.offer(starts, f"{called}, repaired")
+        return best.offer(starts, f"{called}, repaired")
     for one in orders(project, old):
-        answer = psprove.ask(one, Limits(min(SECONDS, SHARE * psprove.clock.left()), conflicts=CONFLICTS))
+        seconds = min(SECONDS, SHARE * psprove.clock.left())
+        answer = psprove.ask(one, Limits(seconds, conflicts=CONFLICTS, is_recorded=False))
         if answer.starts is not None:
-            return known.offer(answer.starts, f"{called}, repaired")
+            return best.offer(answer.starts, f"{called}, repaired")
 
 
-def orders(project: Project, old: Mapping[int, int]) -> Iterator[Project]:
+def orders(project: Numbers, old: Mapping[int, int]) -> Iterator[Numbers]:
     """The project in the order of an old schedule: first with no start before the old one, then without that."""
-    ordered = in_order(project, old)
+    ordered = with_order(project, old)
     later = tuple(Arc(0, i, start) for i, start in old.items())[: MOST_ARCS - len(ordered.arcs)]
     yield replace(ordered, arcs=ordered.arcs + later)
     yield ordered
 
 
 class TreeSearch:
-    """A search by psmax; what is known stands in `known`."""
+    """A search by psmax; what is known stands in `best`."""
 
-    def __init__(self, project: Project, psmax: Psmax, known: Incumbent, jobs: int) -> None:
-        self.project = project
-        self.psmax = psmax
-        self.known = known
-        self.jobs = jobs
+    def __init__(self, project: Numbers, psmax: Psmax, best: Incumbent, jobs: int) -> None:
+        self.project, self.psmax, self.best, self.jobs = project, psmax, best, jobs
 
     def run(self) -> None:
         clock = self.psmax.clock
         with suppress(TimeUp):
-            if self.known.starts is None:
+            if self.best.known.starts is None:
                 self.dive()
             self.slices()
-        if not self.known.settled and clock.over():
+        if not self.best.known.settled and clock.over():
             tell(clock, clock.why_over())
 
     def dive(self) -> None:
         """A schedule, if one is found; its bound comes again with a record."""
         answer = self.psmax.solve(self.project, FIRST, None)
         if answer.starts is not None:
-            self.known.offer(answer.starts, f"psmax solve --nodes {FIRST}")
+            self.best.offer(answer.starts, f"psmax solve --nodes {FIRST}")
 
     def slices(self) -> None:
         nodes = FIRST
-        while not self.known.settled and nodes <= MOST:
-            answer = self.psmax.solve(self.project, nodes, self.jobs, self.known.starts)
-            self.known.learn(answer, f"psmax solve --nodes {nodes} --workers {self.jobs}")
+        while not self.best.known.settled and nodes <= MOST:
+            answer = self.psmax.solve(self.project, nodes, self.jobs, self.best.known.starts)
+            self.best.learn(answer, f"psmax solve --nodes {nodes} --workers {self.jobs}")
             nodes *= GROWTH

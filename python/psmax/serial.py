@@ -4,7 +4,7 @@ from bisect import bisect_right
 from collections.abc import Mapping
 from dataclasses import dataclass, field, replace
 
-from .project import MOST_UNITS, Arc, Project, least_end, least_starts
+from .project import MOST_UNITS, Arc, Numbers, least_end, least_starts
 
 PASSES = 40  # of the serial method, until no maximum lag is broken
 
@@ -45,7 +45,7 @@ class Profile:
 class Serial:
     """The method for one project, from other least starts each time."""
 
-    def __init__(self, project: Project, until: int) -> None:
+    def __init__(self, project: Numbers, until: int) -> None:
         self.project, self.until = project, until
         self.away = [Profile() for _ in project.capacities]
         for one in project.all_absences():
@@ -66,7 +66,7 @@ class Serial:
         return starts
 
 
-def serial_end(project: Project, until: int) -> int | None:
+def serial_end(project: Numbers, until: int) -> int | None:
     """When all has ended; none where that is behind a time, up to which the hours of resources are known."""
     least = least_starts(project)
     if least is None:
@@ -75,7 +75,7 @@ def serial_end(project: Project, until: int) -> int | None:
     return None if starts is None else max([0, *(start + project.durations[i] for i, start in starts.items())])
 
 
-def near(project: Project, old: Mapping[int, int]) -> tuple[int, ...] | None:
+def near(project: Numbers, old: Mapping[int, int]) -> tuple[int, ...] | None:
     """Starts in the order of old ones, and none sooner: what comes too late for a maximum lag makes the other one of
     that wait, in another pass. Lags and resources are kept, but perhaps not lags in calendar days. None where so many
     passes find nothing."""
@@ -94,7 +94,7 @@ def near(project: Project, old: Mapping[int, int]) -> tuple[int, ...] | None:
     return None
 
 
-def place(project: Project, use: list[Profile], activity: int, soonest: int) -> int:
+def place(project: Numbers, use: list[Profile], activity: int, soonest: int) -> int:
     """The first start at which all that it needs is there, which is in use from then on."""
     needs = [(profile, need, units - need) for profile, need, units
              in zip(use, project.demands[activity], project.capacities) if 0 < need <= units]

@@ -9,8 +9,9 @@ from dataclasses import dataclass, field, replace
 
 from .clock import tell
 from .files import write_whole
-from .project import Arc, Goal, Project
+from .project import Arc, Goal, Numbers
 from .project_text import ProjectText
+from .record_file import RecordFile
 from .psmax import starts_text
 from .psprove import Limits, Psprove
 
@@ -26,7 +27,7 @@ class Latest:
     least: int  # in some schedule that is no longer it starts then
     most: int  # in none it starts later; psprove has proved that where there is a record
     schedule: tuple[int, ...]  # in which it starts at the least
-    record: bytes = b""  # that none starts later than the most
+    record: RecordFile | None = None  # that none starts later than the most
     proved: int | None = None  # the most that the record is about
     has_started: bool = False  # and stays
 
@@ -52,19 +53,20 @@ class Latest:
 class TotalFloat:
     """A binary search for each activity, side by side. A schedule that one finds helps the others."""
 
-    project: Project
+    project: Numbers
     starts: tuple[int, ...]
     started: Collection[int]
     psprove: Psprove
     found: dict[int, Latest] = field(default_factory=dict)
     lock: threading.Lock = field(default_factory=threading.Lock)
+    is_recorded: bool = True  # whether proofs are kept
 
     def __post_init__(self) -> None:
         for activity, most in self.by_lags().items():
             start = self.starts[activity]
             self.found[activity] = Latest(start, start, max(start, most), self.starts, has_started=activity in self.started)
 
-    def limited(self, arcs: tuple[Arc, ...] = ()) -> Project:
+    def limited(self, arcs: tuple[Arc, ...] = ()) -> Numbers:
         """The schedules that are no longer than this one. Their end waits for the same time, so each is a shortest one. Where
         the lateness is minimized, no activity ends behind the last one of this schedule either."""
         end, starts, durations = self.project.end, self.starts, self.project.durations
@@ -101,7 +103,7 @@ class TotalFloat:
         latest = self.found[activity]
         while not latest.is_settled and not self.psprove.clock.over():
             middle = latest.most + 1 if latest.least == latest.most else (latest.least + latest.most + 1) // 2
-            limits = Limits(min(seconds, self.psprove.clock.left()))
+            limits = Limits(min(seconds, self.psprove.clock.left()), is_recorded=self.is_recorded)
             answer = self.psprove.ask(self.limited((Arc(0, activity, middle),)), limits)
             with self.lock:
                 if answer.starts is not None:
@@ -135,6 +137,6 @@ class TotalFloat:
                 files[f"{activity}.starts"] = starts_text(spelled.inward(latest.schedule))
             if latest.proved is not None:
                 files[f"{activity}.sch"] = ProjectText(self.limited((Arc(0, activity, latest.proved + 1),))).text
-                files[f"{activity}.record"] = latest.record
+                files[f"{activity}.record"] = b"" if latest.record is None else latest.record.read()
         for name, data in files.items():
             write_whole(os.path.join(folder, name), data)

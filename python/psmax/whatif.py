@@ -4,18 +4,18 @@ import math
 from collections.abc import Sequence
 from concurrent.futures import ThreadPoolExecutor
 from dataclasses import dataclass, replace
-from enum import Enum
+from enum import StrEnum
 
 from .incumbent import Incumbent
-from .outcome import Solved
-from .project import MOST_UNITS, Kind, Part, Project, parts, with_lag, without
+from .known import Known
+from .project import MOST_UNITS, Kind, Numbers, Part, parts, with_lag, without
 from .psprove import Limits, Psprove
 from .search import search
 
 SHARE = 4  # the project as it is gets one of so many parts of the time
 
 
-class ChangeKind(Enum):
+class ChangeKind(StrEnum):
     """One unit more of a resource, an absence that is dropped, a maximum lag that is longer by one period or dropped."""
 
     RESOURCE = "resource"
@@ -28,13 +28,13 @@ class ChangeKind(Enum):
 class Change:
     kind: ChangeKind
     part: Part  # of the project that is changed
-    project: Project  # with the change
+    project: Numbers  # with the change
 
 
 @dataclass(frozen=True)
 class Outcome:
     change: Change
-    known: Solved
+    known: Known
     seconds: float
 
     def rank(self) -> tuple[float, float]:
@@ -43,7 +43,7 @@ class Outcome:
         return value, bound
 
 
-def changes(project: Project, changeable: int | None = None) -> list[Change]:
+def changes(project: Numbers, changeable: int | None = None) -> list[Change]:
     """All changes; of the lags only so many can be changed, where that is said."""
     found = []
     for part in parts(project):
@@ -61,25 +61,25 @@ def changes(project: Project, changeable: int | None = None) -> list[Change]:
     return found
 
 
-def outcomes(found: Sequence[Change], base: Incumbent, psprove: Psprove, jobs: int) -> list[Outcome]:
+def outcomes(found: Sequence[Change], base: Known, psprove: Psprove, jobs: int) -> list[Outcome]:
     """What becomes known of each change by one job beside others, each in its share of the time that is left. The shortest
     schedule comes first."""
     clock = psprove.clock
 
     def outcome(place: int) -> Outcome:
         begun, left = clock.elapsed(), clock.left()
-        limits = Limits(min(left, left * jobs / (len(found) - place)))
+        limits = Limits(min(left, left * jobs / (len(found) - place)), is_recorded=False)
         return Outcome(found[place], psprove.ask(found[place].project, limits, base.starts), clock.elapsed() - begun)
 
     with ThreadPoolExecutor(jobs) as pool:
         return sorted(pool.map(outcome, range(len(found))), key=Outcome.rank)
 
 
-def whatif(project: Project, psprove: Psprove, jobs: int, changeable: int | None = None) -> tuple[Incumbent, list[Outcome]]:
+def whatif(project: Numbers, psprove: Psprove, jobs: int, changeable: int | None = None) -> tuple[Known, list[Outcome]]:
     """What is known of the project as it is, which gets a share of the time, and of its changes."""
     clock = psprove.clock
     seconds, clock.seconds = clock.seconds, clock.seconds / SHARE
     base = Incumbent(clock, project)
-    search(project, psprove, base, jobs)
+    search(project, psprove, base, Limits(math.inf, jobs, is_recorded=False))
     clock.seconds = seconds
-    return base, outcomes(changes(project, changeable), base, psprove, jobs)
+    return base.known, outcomes(changes(project, changeable), base.known, psprove, jobs)

@@ -7,7 +7,7 @@ from math import gcd
 
 from .calendars import MINUTES, Calendar, Days, Moments, Shifts
 from .dates import Moment, read_moment, read_shift, read_workdays
-from .errors import BadInput
+from .errors import BadInput, WrongType
 from .letters import short
 
 PERIOD = re.compile(r"([1-9][0-9]{0,5}) (minutes|hours)")
@@ -15,10 +15,16 @@ PERIOD = re.compile(r"([1-9][0-9]{0,5}) (minutes|hours)")
 
 @dataclass(frozen=True)
 class WorkTime:
-    """Each as people write it, such as `2026-03-02`, `days`, `mon-fri` and `08:00-12:00,13:00-17:00`. Holidays may be dates or
-    such texts, and become dates."""
+    """When the work of a project is, as people write it. BadInput where something of it can't be.
 
-    first: str  # the day or the moment at which the project starts
+    first     the day or the moment at which the project starts: `2026-03-02`, or a date of Python
+    period    what a period is: `days`, `weeks`, `hours`, `minutes`, or such as `30 minutes`
+    workdays  such as `mon-fri`; all days where it is not said
+    holidays  days without work, as texts or as dates of Python, which they become
+    shift     the hours of work of a day, such as `08:00-12:00,13:00-17:00`, for periods that are shorter than a day
+    zone      such as `Europe/Berlin`, for hours around the clock"""
+
+    first: str | datetime.date  # which becomes a text
     period: str = "days"
     workdays: str | None = None
     holidays: Collection[datetime.date | str] = ()
@@ -26,27 +32,58 @@ class WorkTime:
     zone: str | None = None
 
     def __post_init__(self) -> None:
+        for name in ("period", "workdays", "shift", "zone"):
+            value = getattr(self, name)
+            if not isinstance(value, str) and (value is not None or name == "period"):
+                raise WrongType(f"{name}: {short(repr(value))} is no text")
+        object.__setattr__(self, "first", first_text(self.first))
         object.__setattr__(self, "holidays", self.free_days)
+        must_be_period(self.period)
+        try:
+            self.calendar()
+        except OverflowError:
+            raise BadInput(f"'first' is beyond the years 1 to 9999: {short(f'{self.first}')}") from None
+
+    @property
+    def begin(self) -> str:
+        return f"{self.first}"
 
     @property
     def free_days(self) -> tuple[datetime.date, ...]:
         """The holidays as dates, in their order."""
+        if isinstance(self.holidays, str) or not isinstance(self.holidays, Collection):
+            raise WrongType(f"holidays: {short(repr(self.holidays))} is no list of dates")
         return tuple(sorted({*map(day, self.holidays)}))
 
-    def calendar(self, order: str | None = None) -> Calendar:
-        """The dates of the periods. `order` is that of numbers between slashes in dates."""
-        first, where = moment(self.first, "from", order).at, zone(self.zone)
-        minutes = minutes_of(self.period)
-        is_by_day = self.workdays is not None or bool(self.holidays)
-        if is_by_day and minutes > MINUTES["days"]:
-            raise BadInput("workdays and holidays are for periods of a day or less, and a period here is one of the weeks")
-        if minutes < MINUTES["days"] and is_by_day and self.shift is None:
-            raise BadInput("workdays and holidays are for periods of a day, and a period here is one of the "
-                           f"{self.period}; with --shift, the hours of work, there are days off too")
-        if minutes < MINUTES["days"] and self.shift is None:
-            return Moments(first, minutes, where)
-        days = Days(first.date(), max(1, minutes // MINUTES["days"]), workdays(self.workdays), frozenset(self.free_days))
-        return days if minutes >= MINUTES["days"] else Shifts(first, minutes, days, shift(self.shift, minutes))
+    def calendar(self) -> Calendar:
+        """The dates of the periods."""
+        days = frozenset(self.free_days)
+        return dates_of_periods(self.begin, self.period, self.workdays, days, self.shift, self.zone)
+
+
+def dates_of_periods(begin: str, period: str, days_of_work: str | None, holidays: frozenset[datetime.date],
+                     hours: str | None, place: str | None, order: str | None = None) -> Calendar:
+    """The dates of periods. `order` is that of numbers between slashes in dates."""
+    first, where = moment(begin, "from", order).at, zone(place)
+    minutes = minutes_of(period)
+    is_by_day = days_of_work is not None or bool(holidays)
+    if is_by_day and minutes > MINUTES["days"]:
+        raise BadInput("workdays and holidays are for periods of a day or less, and a period here is one of the weeks")
+    if minutes < MINUTES["days"] and is_by_day and hours is None:
+        raise BadInput("workdays and holidays are for periods of a day, and a period here is one of the "
+                       f"{period}; with --shift, the hours of work, there are days off too")
+    if minutes < MINUTES["days"] and hours is None:
+        return Moments(first, minutes, where)
+    days = Days(first.date(), max(1, minutes // MINUTES["days"]), workdays(days_of_work), holidays)
+    return days if minutes >= MINUTES["days"] else Shifts(first, minutes, days, shift(hours, minutes))
+
+
+def first_text(first: object) -> str:
+    if isinstance(first, datetime.datetime):
+        return first.isoformat(" ", "minutes")
+    if not isinstance(first, (str, datetime.date)):
+        raise WrongType(f"first: {short(repr(first))} is no date such as 2026-03-02")
+    return f"{first}"
 
 
 def day(value: datetime.date | str) -> datetime.date:
@@ -54,7 +91,7 @@ def day(value: datetime.date | str) -> datetime.date:
         return moment(value, "holidays", None).at.date()
     if isinstance(value, datetime.date):
         return value.date() if isinstance(value, datetime.datetime) else value
-    raise BadInput(f"holidays: no date such as 2026-03-02: {short(repr(value))}")
+    raise WrongType(f"holidays: no date such as 2026-03-02: {short(repr(value))}")
 
 
 def must_be_period(text: str) -> None:

@@ -29,7 +29,7 @@ def any_project(seed: int) -> psmax.Project:
         if one.capacity and chance.random() < 0.4:
             made.absence(one, 2, chance.choice([None, 5]), 1)
     if chance.random() < 0.5:
-        made.work_time = psmax.WorkTime("2026-03-02", "hours", "mon-fri", shift="08:00-12:00,13:00-17:00")
+        made.calendar = psmax.WorkTime("2026-03-02", "hours", "mon-fri", shift="08:00-12:00,13:00-17:00")
     return made
 
 
@@ -72,8 +72,8 @@ def tasks(seed: int, of_primavera: bool = False) -> psmax.Project:
     """What Microsoft Project can say: links of all four kinds, and a constraint or a due date of some tasks. Primavera
     has one due date of all, resources that something needs, and milestones that need none."""
     chance, made = random.Random(seed), psmax.Project()
-    made.work_time = psmax.WorkTime("2026-03-02 08:00", "hours", "mon-wed,fri", (datetime.date(2026, 3, 6),),
-                                    "08:00-12:00,13:00-17:00")
+    made.calendar = psmax.WorkTime("2026-03-02 08:00", "hours", "mon-wed,fri", (datetime.date(2026, 3, 6),),
+                                   "08:00-12:00,13:00-17:00")
     resources = [made.resource(f"r <{k}>", chance.randint(1, 5)) for k in range(chance.randint(0, 3))]
     has_begun = seed % 4 == 3
     for number in range(chance.randint(1, 6)):

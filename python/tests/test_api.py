@@ -5,6 +5,7 @@ import doctest
 import os
 import pathlib
 import re
+import runpy
 import shutil
 import signal
 import subprocess
@@ -232,6 +233,11 @@ class Interrupted(InFolder):
 
 
 class Documents(InFolder):
+    def test_api_page(self) -> None:
+        """It is what its script makes of the sources today."""
+        made = runpy.run_path(str(TOP / "docs" / "api_page.py"))["page"]()
+        self.assertEqual((TOP / "docs" / "API.md").read_text(), made, "run docs/api_page.py")
+
     def test_examples(self) -> None:
         """Those of README.md and docs/PYTHON.md run as they stand, in a folder with the files of the tests."""
         shutil.copytree(EXAMPLES / "formats", self.folder, dirs_exist_ok=True)

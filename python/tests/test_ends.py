@@ -34,6 +34,17 @@ async def main():
         pass
 asyncio.run(main())
 """
+SEARCH = BEGIN + """
+with project.search(60, 1) as search:
+    for told in search:
+        pass
+"""
+AWAITED = BEGIN + """
+import asyncio
+async def main():
+    await project.search(60, 1)
+asyncio.run(main())
+"""
 
 
 def end(*numbers: signal.Signals) -> Callable[[subprocess.Popen[bytes]], None]:
@@ -81,9 +92,11 @@ class Ends(InFolder):
             time.sleep(0.01)
 
     def test_python(self) -> None:
-        """By a request to end, by force, by two Ctrl-C, where a pool is left, and where a task is cancelled."""
+        """By a request to end, by force, by two Ctrl-C, where a pool is left, where a task is cancelled, and by one Ctrl-C
+        where a search is listened to or awaited."""
         kill, term, once = end(signal.SIGKILL), end(signal.SIGTERM), signal.SIGINT
-        calls = (SOLVE, kill), (SOLVE, term), (SOLVE, end(once, once)), (VERIFY, kill), (POOL, wait), (TASK, wait)
+        calls = (SOLVE, kill), (SOLVE, term), (SOLVE, end(once, once)), (VERIFY, kill), (POOL, wait), (TASK, wait), \
+            (SEARCH, end(once)), (AWAITED, end(once)), (SEARCH, kill)
         for script, ends in calls:
             with self.subTest(script.removeprefix(BEGIN), ends=ends):
                 self.left([sys.executable, "-c", script, str(TWO), str(self.pid)], ends)

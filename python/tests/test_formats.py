@@ -54,7 +54,7 @@ class Formats(InFolder):
                     self.assertEqual(sorted(again.numbers().arcs), sorted(project.numbers().arcs))
                     self.assertEqual(vars(again.numbers()) | {"arcs": 0}, vars(project.numbers()) | {"arcs": 0})
                     self.assertEqual([one.name for one in again.activities], [one.name for one in project.activities])
-                    self.assertEqual((again.work_time, again.text(name)), (project.work_time, text))
+                    self.assertEqual((again.calendar, again.text(name)), (project.calendar, text))
                     if name in ("mspdi", "xer"):
                         self.assertEqual((again.status, again.started), (project.status, project.started))
                         self.assertEqual(again.groups, project.groups)
@@ -67,9 +67,9 @@ class Formats(InFolder):
             with self.subTest(holidays):
                 project = psmax.Project()
                 project.activity("dig", 3)
-                project.work_time = psmax.WorkTime("2026-03-05", workdays="mon-fri", holidays=holidays)
-                self.assertEqual(project.work_time.calendar().times(0, 3), ("2026-03-05", "2026-03-10"))
-                self.assertEqual(psmax.Project.read(project.text("json").encode()).work_time, project.work_time)
+                project.calendar = psmax.WorkTime("2026-03-05", workdays="mon-fri", holidays=holidays)
+                self.assertEqual(project.calendar.calendar().times(0, 3), ("2026-03-05", "2026-03-10"))
+                self.assertEqual(psmax.Project.read(project.text("json").encode()).calendar, project.calendar)
         for odd in (["soon"], [6]):
             with self.subTest(odd), self.assertRaisesRegex(psmax.BadInput, "holidays"):
                 psmax.WorkTime("2026-03-05", holidays=odd)  # type: ignore[arg-type]

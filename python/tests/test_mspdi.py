@@ -31,8 +31,8 @@ class Mspdi(InFolder):
     def test_by_hand(self) -> None:
         """Four links, a holiday on Friday, a constraint, a deadline, half done work and a crane that two tasks need."""
         hall = psmax.Project.read(HALL)
-        self.assertEqual(hall.work_time, psmax.WorkTime("2026-03-02 08:00", "4 hours", "mon-fri",
-                                                        (datetime.date(2026, 3, 6),), "08:00-12:00,13:00-17:00"))
+        self.assertEqual(hall.calendar, psmax.WorkTime("2026-03-02 08:00", "4 hours", "mon-fri",
+                                                       (datetime.date(2026, 3, 6),), "08:00-12:00,13:00-17:00"))
         self.assertEqual([(one.name, one.capacity) for one in hall.resources], [("crew", 4), ("crane", 1)])
         answer = hall.solve(10, 1)
         self.assertEqual((answer.makespan, answer.status), (12, psmax.Status.OPTIMAL))

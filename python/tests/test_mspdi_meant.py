@@ -128,7 +128,7 @@ class Meant(unittest.TestCase):
         by_hand = "<Manual>1</Manual><ManualStart>{}</ManualStart><Start>2026-03-02T08:00:00</Start>"
         made = project(task(1, "dig", 1, 8, by_hand.format("2026-03-04T10:00:00")) + task(2, "pour", 1, 8, link(1))
                        + task(3, "watch", 1, 8, by_hand.format("2026-03-07T10:00:00")))
-        self.assertEqual(made.work_time.period if made.work_time else "", "2 hours")
+        self.assertEqual(made.calendar.period if made.calendar else "", "2 hours")
         self.assertEqual(lags(made), {("", "start", "dig", "start", 9, 9), ("dig", "end", "pour", "start", 0, None),
                                       ("", "start", "watch", "start", 20, 20)})
         self.refused(("task 'dig': it starts at 2026-02-27 10:00:00, and the project at 2026-03-02 08:00:00",),
@@ -150,14 +150,14 @@ class Meant(unittest.TestCase):
         for start, period, first in (("2026-03-02T09:00:00", "hours", "2026-03-02 09:00"),
                                      ("2026-03-02T13:30:00", "30 minutes", "2026-03-02 13:30"),
                                      ("2026-03-02T12:30:00", "4 hours", "2026-03-02 13:00")):
-            time = project(task(1, "dig", 1), start=start).work_time
+            time = project(task(1, "dig", 1), start=start).calendar
             self.assertEqual((time and time.period, time and time.calendar().times(0, 1)[0]), (period, first))
 
     def test_calendars(self) -> None:
         """One that is based on another has its days and hours, and says what is not so there."""
         monday = "<WeekDays><WeekDay><DayType>2</DayType><DayWorking>0</DayWorking></WeekDay></WeekDays>"
         made = project(task(1, "dig", 1), calendars=calendar(1, monday, 7) + calendar(7, week(NIGHT)))
-        self.assertEqual(made.work_time and (made.work_time.workdays, made.work_time.shift), ("tue-fri", "18:00-22:00"))
+        self.assertEqual(made.calendar and (made.calendar.workdays, made.calendar.shift), ("tue-fri", "18:00-22:00"))
         crew = resource("<CalendarUID>2</CalendarUID>")
         for same in (calendar(2, "", 1), calendar(2, "", 3) + calendar(3, week()), calendar(2, week())):
             self.assertEqual(len(project(task(1, "dig", 1), crew, calendar(1, week()) + same).resources), 1)

@@ -168,7 +168,21 @@ class Installed(InFolder):
         self.assertEqual(first, second)
         with zipfile.ZipFile(self.folder / wheels[0]) as wheel:
             said = wheel.read(f"psmax-{__version__}.dist-info/METADATA").decode()
+        self.assertIn("Classifier: Typing :: Typed\n", said)
         self.assertIn("Provides-Extra: holidays\nRequires-Dist: holidays; extra == 'holidays'\n", said)
+
+    @unittest.skipUnless(importlib.util.find_spec("ensurepip"), "no pip here for a new environment")
+    def test_pip_install_editable(self) -> None:
+        """`pip install -e .` leads to the sources; both programs are commands."""
+        there = self.folder / "there"
+        venv.create(there, with_pip=True, symlinks=True)
+        ran = self.run_there(there / "bin" / "python", "-m", "pip", "install", "--quiet", "--no-index",
+                             "--no-build-isolation", "--editable", TOP)
+        self.assertEqual(ran.returncode, 0, ran.stderr)
+        ran = self.run_there(there / "bin" / "python", "-c", "import psmax; print(psmax.__file__)")
+        self.assertEqual(ran.stdout, f"{TOP / 'python' / 'psmax' / '__init__.py'}\n", ran.stderr)
+        for name in ("plan", "psmax", "psprove"):
+            self.assertIn(__version__, self.run_there(there / "bin" / name, "--version").stdout)
 
     @unittest.skipUnless(shutil.which("dpkg-deb"), "dpkg isn't here")
     def test_debian_package(self) -> None:

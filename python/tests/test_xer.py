@@ -51,7 +51,7 @@ class Read(unittest.TestCase):
     def test_the_same_as_xml(self) -> None:
         """The hall is the same project as that of Microsoft Project, but for the data date."""
         hall = psmax.Project.read(HALL)
-        self.assertEqual((hall.work_time, hall.name), (XML.work_time, "A hall"))
+        self.assertEqual((hall.calendar, hall.name), (XML.calendar, "A hall"))
         own, other = (sorted(f"{one.name} {one.duration} {[(need.name, units) for need, units in one.demands.items()]}"
                              for one in made.activities) for made in (hall, XML))
         self.assertEqual(own, other)
@@ -110,10 +110,10 @@ class Read(unittest.TestCase):
     def test_periods(self) -> None:
         """A period divides the hours of a constraint; work may go round the clock; a crew may grow on a day."""
         hall = psmax.Project.read(put("TASK", "A1070", "cstr_date", "2026-03-09 14:30"))
-        self.assertEqual(hall.work_time and hall.work_time.period, "30 minutes")
+        self.assertEqual(hall.calendar and hall.calendar.period, "30 minutes")
         plain = calendar_data("mon-sun", "00:00-12:00,12:00-24:00", ())
         hall = psmax.Project.read(put("CALENDAR", "Standard", "clndr_data", plain))
-        self.assertEqual(hall.work_time and (hall.work_time.workdays, hall.work_time.shift), ("mon-sun", "00:00-24:00"))
+        self.assertEqual(hall.calendar and (hall.calendar.workdays, hall.calendar.shift), ("mon-sun", "00:00-24:00"))
         hall = psmax.Project.read(add("RSRCRATE", "%R\t413\t400\t6\t\t2026-03-05 08:00\n"))
         self.assertEqual([(one.begins, one.ends, one.units) for one in hall.absences], [(0, 6, 2)])
 

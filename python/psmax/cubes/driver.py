@@ -63,8 +63,8 @@ def length(arcs: str) -> tuple[int, str]:
 
 
 class Driver:
-    def __init__(self, tree: Driven, known: Incumbent, spelled: ProjectText) -> None:
-        self.tree, self.known, self.spelled = tree, known, spelled
+    def __init__(self, tree: Driven, incumbent: Incumbent, spelled: ProjectText) -> None:
+        self.tree, self.incumbent, self.spelled = tree, incumbent, spelled
         self.tries: Counter[str] = Counter()
         self.told = -TOLD
         if tree.starts is not None:
@@ -72,15 +72,16 @@ class Driver:
 
     def first(self) -> None:
         """A search with neighbourhoods, which cubes have none of: it comes by a better schedule sooner than they do."""
-        clock, before = self.known.clock, used()
+        clock, before = self.incumbent.clock, used()
         limits = Limits(min(SECONDS, clock.left()), conflicts=BEGIN)
         try:
-            found = Psprove(clock, f"{self.tree.folder}").solve(self.spelled.project, limits, None, self.known.hear)
+            found = Psprove(clock, f"{self.tree.folder}").solve(self.spelled.project, limits, None, self.incumbent.hear)
         except TimeUp:  # what it told is known
             return
-        self.known.learn(replace(found, record=b""), " ".join(["psprove solve", *limits.arguments()]))
-        self.tree.keep_first(found.record, state="refuted" if found.settled else "open", starts=self.best(),
-                             conflicts=found.conflicts, record_bytes=len(found.record), seconds=round(used() - before, 3))
+        self.incumbent.learn(replace(found, record=None), " ".join(["psprove solve", *limits.arguments()]))
+        log = b"" if found.record is None else found.record.read()
+        self.tree.keep_first(log, state="refuted" if found.settled else "open", starts=self.best(),
+                             conflicts=found.conflicts, record_bytes=len(log), seconds=round(used() - before, 3))
 
     def refute(self, machines: Machines) -> None:
         """Until no cube is open, or the time is over."""
@@ -88,10 +89,10 @@ class Driver:
         self.tree.write("begun", starts=self.best(), offset=self.spelled.offset)
         try:
             self.machines.begin(self.tree.folder)
-            if self.known.starts is None and not self.tree.number:
+            if self.incumbent.known.starts is None and not self.tree.number:
                 self.first()
             self.machines.tell(self.best())
-            while self.tree.is_open() and not self.known.clock.over():
+            while self.tree.is_open() and not self.incumbent.clock.over():
                 room = self.machines.room()
                 self.give(room)
                 found = self.machines.next(GLANCE)
@@ -103,7 +104,7 @@ class Driver:
 
     def best(self) -> tuple[int, ...] | None:
         """The starts of the text's activities in the shortest schedule."""
-        starts = self.known.starts
+        starts = self.incumbent.known.starts
         return self.spelled.inward(starts) if starts is not None and self.spelled.has(starts) else None
 
     def give(self, room: int) -> None:
@@ -150,7 +151,7 @@ class Driver:
     def fail(self, name: str, fault: Exception) -> None:
         self.tries[name] += 1
         why = (str(fault) or repr(fault)).partition(". ")[0]  # Dask goes on with advice
-        tell(self.known.clock, f"cube {name or WHOLE}: {why}")
+        tell(self.incumbent.clock, f"cube {name or WHOLE}: {why}")
         if self.tries[name] == TRIES:
             raise Failed(f"cube {name or WHOLE} failed {TRIES} times: {why}")
 
@@ -158,15 +159,15 @@ class Driver:
         """Whether psmax finds these starts of the text feasible. Then they are known."""
         found = self.spelled.outward(starts)
         if Psmax(Clock()).check(self.spelled.project, found).value is None:
-            tell(self.known.clock, f"{by}: its schedule is not feasible")
+            tell(self.incumbent.clock, f"{by}: its schedule is not feasible")
             return False
-        if self.known.value is None or found[-1] < self.known.value:
-            self.known.offer(found, by)
+        if self.incumbent.known.value is None or found[-1] < self.incumbent.known.value:
+            self.incumbent.offer(found, by)
         return True
 
     def report(self, room: int) -> None:
         for name in self.machines.newcomers():
-            tell(self.known.clock, f"{name} is a worker of the cluster")
-        if self.known.clock.elapsed() >= self.told + TOLD:
-            self.told = self.known.clock.elapsed()
-            tell(self.known.clock, self.tree.state() if room else "the cluster has no worker yet")
+            tell(self.incumbent.clock, f"{name} is a worker of the cluster")
+        if self.incumbent.clock.elapsed() >= self.told + TOLD:
+            self.told = self.incumbent.clock.elapsed()
+            tell(self.incumbent.clock, self.tree.state() if room else "the cluster has no worker yet")

@@ -36,7 +36,7 @@ class Judged:
     believed: Mapping[str, tuple[int, ...]]  # those that were not, by who says so
 
 
-class Parts:
+class RecordParts:
     """One part for each thread of the machines. Where these aren't this one's, some are judged `here`."""
 
     def __init__(self, path: str, text: bytes, machines: Machines, clock: Clock, here: Machines | None = None) -> None:

@@ -4,7 +4,7 @@ import re
 from collections.abc import Callable
 from dataclasses import dataclass
 
-from ..errors import BadInput
+from ..errors import BadInput, WrongType
 from ..files import LARGEST, decoded, must_be_short
 from ..letters import composed, short
 from ..model import Parts
@@ -60,9 +60,16 @@ FORMATS = {one.name: one for one in (
 
 
 def named(name: str) -> Format:
+    if not isinstance(name, str):
+        raise WrongType(f"format {short(repr(name))}: no name of a format, such as {', '.join(FORMATS)}")
     if name not in FORMATS:
         raise BadInput(f"format '{short(name)}': none of {', '.join(FORMATS)}")
     return FORMATS[name]
+
+
+def is_like_some(text: str) -> bool:
+    """Whether a text has one of the formats."""
+    return any(one.is_like(text) for one in FORMATS.values())
 
 
 def found(text: str) -> Format:

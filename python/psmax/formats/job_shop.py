@@ -3,7 +3,7 @@ from collections.abc import Iterator
 
 from ..errors import BadInput
 from ..model import Parts
-from .numbers import Numbers, all_numbers, first_lines, lines_of
+from .numbers import Reader, all_numbers, first_lines, lines_of
 from .shops import Operation, fill, job_shop_of, read_sizes
 
 NAME, SUFFIX = "a job shop by lines", ".jsp"
@@ -22,7 +22,7 @@ def own_lines(text: str) -> Iterator[tuple[int, str]]:
 
 def read(text: str, project: Parts) -> None:
     lines = own_lines(text)
-    numbers = Numbers(lines)
+    numbers = Reader(lines)
     jobs, machines = read_sizes(numbers)
     shop = []
     for job in range(1, jobs + 1):

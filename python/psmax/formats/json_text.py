@@ -7,7 +7,7 @@ from ..crew_hours import Hours, is_within, read_hours
 from ..errors import BadInput
 from ..letters import short
 from ..model import Activity, Lag, Parts, Point, Resource
-from ..work_time import WorkTime, must_be_period
+from ..work_time import WorkTime
 
 SUFFIX = ".json"
 KIND = "psmax-project 1"  # what the key `format` says
@@ -30,7 +30,12 @@ def is_like(text: str) -> bool:
 
 
 def read(text: str, project: Parts) -> None:
-    told = checked(parsed(text), "the project")
+    fill(project, parsed(text))
+
+
+def fill(project: Parts, value: object) -> None:
+    """Reads the object of a project into an empty one."""
+    told = checked(value, "the project")
     if told["format"] != KIND:
         raise BadInput(f"the format is not '{KIND}': {short(repr(told['format']))}")
     project.name = named(told.get("name", ""), "the name of the project")
@@ -49,7 +54,7 @@ def read(text: str, project: Parts) -> None:
         until, units = (integer(one[key], f"an absence's `{key}`") if key in one else None for key in ("to", "units"))
         project.absence(resource(one["resource"], resources), integer(one["from"], "an absence's `from`"), until, units)
     if "work time" in told:
-        project.work_time = work_time(checked(told["work time"], "the work time"))
+        project.calendar = work_time(checked(told["work time"], "the work time"))
     project.status = integer(told["status"], "'status'") if "status" in told else None
     must_have_hours(project)
 
@@ -61,6 +66,8 @@ def parsed(text: str) -> object:
         raise BadInput(f"line {fault.lineno}, column {fault.colno}: no JSON: {fault.msg}") from None
     except RecursionError:
         raise BadInput("the JSON is nested too deeply") from None
+    except BadInput:
+        raise
     except ValueError as fault:
         raise BadInput(f"no JSON: {short(str(fault))}") from None
 
@@ -121,18 +128,19 @@ def resource(name: object, resources: Mapping[str, Resource]) -> Resource:
 
 
 def hours(value: object, name: str) -> Hours:
+    text = named(value, f"the hours of {short(name)}")
     try:
-        return read_hours(named(value, f"the hours of {short(name)}"))
+        return read_hours(text)
     except ValueError as fault:
         raise BadInput(f"the hours of {short(name)}: {fault}") from None
 
 
 def must_have_hours(project: Parts) -> None:
     """A project that has those of its resources."""
-    if project.hours and project.work_time is None:
+    if project.hours and project.calendar is None:
         raise BadInput("hours of a resource need a work time")
     for one, own in project.hours.items():
-        if project.work_time is not None and not is_within(own, project.work_time.calendar()):
+        if project.calendar is not None and not is_within(own, project.calendar.calendar()):
             raise BadInput(f"the hours of {short(one.name)} go beyond the work time")
     try:
         project.crews_off()
@@ -156,13 +164,7 @@ def work_time(told: Object) -> WorkTime:
     days = told.get("holidays", [])
     if not isinstance(days, list):
         raise BadInput("'holidays' is no list")
-    must_be_period(texts.get("period", "days"))
-    found = WorkTime(**texts, holidays=tuple(map(date, days)))
-    try:
-        found.calendar()
-    except OverflowError:
-        raise BadInput(f"'first' is beyond the years 1 to 9999: {short(found.first)}") from None
-    return found
+    return WorkTime(**texts, holidays=tuple(map(date, days)))
 
 
 def date(value: object) -> datetime.date:
@@ -174,20 +176,27 @@ def date(value: object) -> datetime.date:
 
 def write(project: Parts) -> str:
     """An object for each line, in the order of the project."""
+    told = to_dict(project)
+    return "{" + ",".join(f"\n{json.dumps(key)}: {in_lines(value)}" for key, value in told.items()) + "\n}\n"
+
+
+def to_dict(project: Parts) -> dict[str, object]:
+    """The object of a project."""
     told: dict[str, object] = {"format": KIND} | ({"name": project.name} if project.name else {})
-    if project.work_time is not None:
-        time = {key: value for key, value in vars(project.work_time).items() if value}
-        told["work time"] = time | ({"holidays": [f"{day}" for day in project.work_time.free_days]}
-                                    if project.work_time.holidays else {})
+    if project.calendar is not None:
+        time = {key: value for key, value in vars(project.calendar).items() if value}
+        told["work time"] = time | ({"holidays": [f"{day}" for day in project.calendar.free_days]}
+                                    if project.calendar.holidays else {})
     told |= {"status": project.status} if project.status and project.hours else {}
     told["resources"] = [{"name": one.name, "capacity": one.capacity}
                          | ({"hours": project.hours[one].text} if one in project.hours else {}) for one in project.resources]
     told["activities"] = [activity_object(one) for one in project.activities]
     told["lags"] = [lag_object(one, project) for one in project.lags]
     if project.absences:
-        told["absences"] = [{"resource": one.resource.name, "from": one.begins, "units": one.units}
+        told["absences"] = [{"resource": one.resource.name, "from": one.begins}
+                            | ({} if one.away is None else {"units": one.away})
                             | ({} if one.ends is None else {"to": one.ends}) for one in project.absences]
-    return "{" + ",".join(f"\n{json.dumps(key)}: {in_lines(value)}" for key, value in told.items()) + "\n}\n"
+    return told
 
 
 def in_lines(value: object) -> str:

@@ -15,7 +15,7 @@ from ..model import Parts
 from ..work_time import WorkTime
 from .mspdi_calendar import base_calendar, by_uid, holidays, hours, is_like_project
 from .mspdi_lags import WHOLE, read_entries
-from .mspdi_limits import Limits, due_dates
+from .mspdi_limits import Constraints, due_dates
 from .mspdi_outline import Outline, is_set
 from .mspdi_resources import Needs, crew_hours
 from .tool_file import Gathering, Link, must_fit
@@ -241,7 +241,7 @@ def read(text: str, project: Parts) -> None:
     document = Document(root)
     project.name = printable(text_of(root, "Title") or "")
     needs = Needs(document)
-    project.work_time = document.work_time
+    project.calendar = document.work_time
     with document.kept():
         needs.fill(project)
     due = due_dates(document)
@@ -257,7 +257,7 @@ def read(text: str, project: Parts) -> None:
         before = project.start if link.before == f"{WHOLE}" else (
             own[link.before].end if link.from_end else own[link.before].start)
         project.lag(before, point, at_most=link.minutes // document.minutes)
-    Limits(document, project, own).add()
+    Constraints(document, project, own).add()
     project.groups, project.ids = document.outline.groups(), document.outline.ids()
     must_fit(project, document, lambda activity: f"task '{short(activity.name)}'")
     document.tell()

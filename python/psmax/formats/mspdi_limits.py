@@ -52,7 +52,7 @@ def due_dates(document: "Document") -> dict[str, int]:
 
 
 @dataclass
-class Limits:
+class Constraints:
     document: "Document"
     project: Parts
     own: Mapping[str, Activity]

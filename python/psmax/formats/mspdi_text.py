@@ -33,7 +33,7 @@ PERCENT = 100
 
 def write(project: Parts) -> str:
     """A project with dates. What MSPDI can't say is told at once."""
-    dates, faults = dates_of(project.work_time, "MSPDI"), Gathering()
+    dates, faults = dates_of(project.calendar, "MSPDI"), Gathering()
     root, ties = Element("Project", {"xmlns": SPACE}), ties_of(project, faults)
     parts = read_shift(dates.time.shift or "")
     texts = {"Name": project.name, "Title": project.name, "StartDate": stamp(dates.begins(0)), "CalendarUID": BASE,
@@ -183,7 +183,7 @@ def replanned(text: str, schedule: Schedule) -> str:
     stays. A summary goes from the first start below it to the last end."""
     root = parsed(text)
     document = Document(root)
-    numbers, starts = schedule.project.numbers(), schedule.starts
+    numbers, starts = schedule.question.numbers, schedule.starts
     times: dict[str, tuple[datetime.datetime, datetime.datetime]] = {}
     for number, (uid, task) in enumerate(document.tasks.items(), 1):
         begins, ends = (datetime.datetime.fromisoformat(told) for told in

@@ -26,7 +26,7 @@ def all_numbers(line: str) -> bool:
     return all(NUMBER.fullmatch(word) for word in line.split())
 
 
-class Numbers:
+class Reader:
     def __init__(self, lines: Iterable[tuple[int, str]]) -> None:
         words = ((number, word) for number, line in lines for word in line.split(None, MOST_WORDS))
         self.words = [*islice(words, MOST_WORDS + 1)]

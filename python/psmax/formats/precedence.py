@@ -6,7 +6,7 @@ from dataclasses import dataclass
 from ..errors import BadInput
 from ..model import Parts
 from ..project import MOST_ACTIVITIES
-from ..project import Project as Numbers
+from ..project import Numbers
 
 MOST_JOBS = MOST_ACTIVITIES + 2  # with the start and the end
 

@@ -1,7 +1,7 @@
 """Patterson's text of RCPSP (`.rcp`)."""
 from ..model import Parts
 from ..project import MOST_RESOURCES
-from .numbers import Numbers, all_numbers, first_lines, lines_of
+from .numbers import Reader, all_numbers, first_lines, lines_of
 from .precedence import MOST_JOBS, Jobs, jobs_of
 
 NAME, SUFFIX = "Patterson's text", ".rcp"
@@ -14,7 +14,7 @@ def is_like(text: str) -> bool:
 
 
 def read(text: str, project: Parts) -> None:
-    numbers = Numbers(lines_of(text))
+    numbers = Reader(lines_of(text))
     count = numbers.take("the number of jobs", 2, MOST_JOBS)
     resources = numbers.take("the number of resources", 0, MOST_RESOURCES)
     capacities = numbers.row("the units of resource", resources)

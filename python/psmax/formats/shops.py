@@ -5,8 +5,8 @@ from typing import NamedTuple
 from ..errors import BadInput
 from ..model import Activity, Parts
 from ..project import MOST_ACTIVITIES, MOST_RESOURCES
-from ..project import Project as Numbers
-from .numbers import Numbers as Reader
+from ..project import Numbers
+from .numbers import Reader
 from .precedence import plain
 
 JOB_SHOP = "a job shop"

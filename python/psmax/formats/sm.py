@@ -4,7 +4,7 @@ import re
 from ..errors import BadInput
 from ..model import Parts
 from ..project import MOST_RESOURCES
-from .numbers import Numbers, lines_of
+from .numbers import Reader, lines_of
 from .precedence import MOST_JOBS, Jobs, jobs_of
 
 NAME, SUFFIX = "PSPLIB's single-mode text", ".sm"
@@ -26,9 +26,9 @@ def read(text: str, project: Parts) -> None:
     resources = stated(parts[""], "- renewable", 0, MOST_RESOURCES)
     if any(stated(parts[""], f"- {kind}", 0, MOST_RESOURCES) for kind in ("nonrenewable", "doubly constrained")):
         raise BadInput(MODES)
-    successors = read_successors(Numbers(parts[PRECEDENCES]), count)
-    durations, demands = read_requests(Numbers(parts[REQUESTS]), count, resources)
-    numbers = Numbers(parts[CAPACITIES])
+    successors = read_successors(Reader(parts[PRECEDENCES]), count)
+    durations, demands = read_requests(Reader(parts[REQUESTS]), count, resources)
+    numbers = Reader(parts[CAPACITIES])
     capacities = numbers.row("the units of resource", resources)
     numbers.must_end()
     Jobs(durations, demands, successors).fill(project, capacities)
@@ -61,11 +61,11 @@ def stated(lines: Lines, name: str, least: int, most: int) -> int:
     for number, line in lines:
         before, colon, after = line.partition(":")
         if colon and " ".join(before.split()).lower() == " ".join(name.split()):
-            return Numbers([(number, after)]).take(name, least, most)
+            return Reader([(number, after)]).take(name, least, most)
     raise BadInput(f"there is no line `{name}:`")
 
 
-def read_successors(numbers: Numbers, count: int) -> list[list[int]]:
+def read_successors(numbers: Reader, count: int) -> list[list[int]]:
     found = []
     for job in range(1, count + 1):
         numbers.must_be("the number of a job", job)
@@ -77,7 +77,7 @@ def read_successors(numbers: Numbers, count: int) -> list[list[int]]:
     return found
 
 
-def read_requests(numbers: Numbers, count: int, resources: int) -> tuple[list[int], list[list[int]]]:
+def read_requests(numbers: Reader, count: int, resources: int) -> tuple[list[int], list[list[int]]]:
     durations, demands = [], []
     for job in range(1, count + 1):
         numbers.must_be("the number of a job", job)

@@ -4,7 +4,7 @@ from dataclasses import dataclass
 
 from ..errors import BadInput
 from ..model import Parts
-from .numbers import Numbers, lines_of
+from .numbers import Reader, lines_of
 from .shops import Operation, Shop, fill, job_shop_of, open_shop_of, read_sizes
 
 HEAD = re.compile(r"\s*(Nb|number) of jobs\s*,", re.I)
@@ -42,7 +42,7 @@ def read_open_shop(text: str, project: Parts) -> None:
 
 
 def read(text: str) -> Shop:
-    numbers = Numbers((line, words) for line, words in lines_of(text) if not re.match(r"\s*[A-Za-z]", words))
+    numbers = Reader((line, words) for line, words in lines_of(text) if not re.match(r"\s*[A-Za-z]", words))
     jobs, machines = read_sizes(numbers)
     for name in ("the seed of the times", "the seed of the machines", "the upper bound", "the lower bound"):
         numbers.skip(name)

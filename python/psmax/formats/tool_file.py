@@ -6,7 +6,7 @@ from dataclasses import dataclass, field, replace
 from functools import cached_property
 
 from ..calendars import MINUTES, Calendar
-from ..crew_hours import SPANS, Stretch, windows
+from ..crew_hours import SPANS, Stretch, hour_windows
 from ..dates import read_shift
 from ..errors import BadInput
 from ..letters import at_most
@@ -73,7 +73,7 @@ def dates_of(time: WorkTime | None, tool: str) -> Dates:
         return Dates(time, 1, minutes)
     if minutes >= MINUTES["days"]:
         days = minutes // MINUTES["days"]
-        halves = replace(time, first=time.first.split()[0], period=HALF, shift=USUAL)
+        halves = replace(time, first=time.begin.split()[0], period=HALF, shift=USUAL)
         return Dates(halves, 2 * days, days * sum(ends - begins for begins, ends in read_shift(USUAL)))
     found = Dates(replace(time, shift=ALL_DAY, zone=None), 1, minutes)
     if time.zone is not None or found.calendar.begins(0) != time.calendar().begins(0):
@@ -108,7 +108,7 @@ def must_fit(project: Parts, faults: Gathering, called: Callable[[Activity], str
         begun = project.started.get(activity.number)
         rest = activity.duration if begun is None else begun + activity.duration - crews.now
         if crew not in found:
-            found[crew] = windows(off, crew, crews.now, until)
+            found[crew] = hour_windows(off, crew, crews.now, until)
         longest = max((last - first for first, last in found[crew] if begun is None or first <= crews.now), default=0)
         if crew and rest > longest:
             faults.faults.append(f"{called(activity)}: it takes longer than all that it needs is there at a time, and "

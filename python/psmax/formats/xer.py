@@ -3,7 +3,7 @@ from ..errors import BadInput
 from ..model import Parts
 from .tool_file import must_fit
 from .xer_document import Document, called, code
-from .xer_limits import Progress
+from .xer_limits import Actuals
 from .xer_resources import Needs
 from .xer_tables import read_tables
 
@@ -18,8 +18,8 @@ def read(text: str, project: Parts) -> None:
 def fill(document: Document, project: Parts) -> None:
     if not document.activities:
         raise BadInput("the project has no activities")
-    progress = Progress(document)
-    project.name, project.work_time = document.title, progress.work_time
+    progress = Actuals(document)
+    project.name, project.calendar = document.title, progress.work_time
     with document.kept():
         document.must_count_lags()
     needs = Needs(document, progress.calendar, progress.crews)

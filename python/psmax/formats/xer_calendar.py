@@ -31,7 +31,7 @@ class Entry:
 
 
 @dataclass(frozen=True)
-class Hours:
+class CalendarHours:
     """A calendar as far as it matters: from the start of the project on."""
 
     week: Mapping[int, Spans]  # of the days of the week with work; Monday is 0
@@ -57,7 +57,7 @@ class Hours:
         return in_ranges(self.week), shift, tuple(sorted(self.others))
 
 
-def hours_of(calendars: Mapping[str, Row], uid: str, first: datetime.date) -> Hours:
+def hours_of(calendars: Mapping[str, Row], uid: str, first: datetime.date) -> CalendarHours:
     """The hours from a day on. A calendar has the days off of the one that it is based on too."""
     own = calendars[uid]
     called = f"calendar '{short(cell(own, 'clndr_name'))}'"
@@ -70,8 +70,8 @@ def hours_of(calendars: Mapping[str, Row], uid: str, first: datetime.date) -> Ho
         others |= {date_of(one.told.get("d", ""), called): spans_of(one.inner, called)
                    for one in below(lists, "Exceptions")}
     work = {day: spans for day, spans in sorted(week.items()) if spans}
-    return Hours(work, {day: spans for day, spans in others.items()
-                        if day >= first and spans != work.get(day.weekday(), ())})
+    return CalendarHours(work, {day: spans for day, spans in others.items()
+                                if day >= first and spans != work.get(day.weekday(), ())})
 
 
 def base_first(calendars: Mapping[str, Row], uid: str) -> list[Row]:

@@ -15,7 +15,7 @@ from ..project import MOST_ACTIVITIES
 from ..work_time import WorkTime
 from .tool_file import Gathering, Link
 from .mspdi import calendar_of
-from .xer_calendar import MOST_SIGNS, Hours, base_first, hours_of
+from .xer_calendar import MOST_SIGNS, CalendarHours, base_first, hours_of
 from .xer_tables import Row, cell, minutes, moment
 
 ENDS = {"PR_FS": (True, False), "PR_SS": (False, False), "PR_FF": (True, True), "PR_SF": (False, True)}
@@ -176,7 +176,7 @@ class Document(Gathering):
     def calendars(self) -> dict[str, Row]:
         return {cell(row, "clndr_id"): row for row in self.tables.get("CALENDAR", [])}
 
-    def hours(self, uid: str) -> Hours:
+    def hours(self, uid: str) -> CalendarHours:
         """Those of a calendar."""
         if uid not in self.known_hours:
             self.signs += sum(len(cell(row, "clndr_data")) for row in base_first(self.calendars, uid))
@@ -186,7 +186,7 @@ class Document(Gathering):
         return self.known_hours[uid]
 
     @cached_property
-    def known_hours(self) -> dict[str, Hours]:
+    def known_hours(self) -> dict[str, CalendarHours]:
         return {}
 
     @cached_property

@@ -25,7 +25,7 @@ DATES = (("cstr_type", "cstr_date"), ("cstr_type2", "cstr_date2"), (SOONEST, "ex
 
 
 @dataclass
-class Progress:
+class Actuals:
     """Minutes become periods here. What has started touches whole periods; all else is exact."""
 
     document: Document

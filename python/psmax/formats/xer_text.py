@@ -12,7 +12,7 @@ from .tool_file import Dates, dates_of, is_said
 from .xer_calendar import calendar_data, data_of
 from .xer_crews import DEPENDS
 from .xer_document import COMPLETE, ENDS, Document
-from .xer_limits import Progress
+from .xer_limits import Actuals
 from .xer_sign import MARK
 from .xer_tables import CELLS, COLUMNS, HOUR, LAST, TABLE, cell, read_tables
 
@@ -31,7 +31,7 @@ Cells = Mapping[str, object]
 
 def write(project: Parts) -> str:
     """A project with dates. Each lag is a link or a constraint."""
-    dates, due = dates_of(project.work_time, "Primavera"), {one.due for one in project.activities}
+    dates, due = dates_of(project.calendar, "Primavera"), {one.due for one in project.activities}
     if project.absences or len(due) > 1 or any(
             project.end in (lag.before, lag.after) or lag.after == project.start for lag in project.lags):
         raise BadInput(REFUSED)
@@ -191,7 +191,7 @@ def replanned(data: bytes, schedule: Schedule) -> bytes:
 
 def times_of(document: Document, schedule: Schedule) -> dict[str, tuple[str, str]]:
     """When what has not started begins and ends; and the end of the project, by no ID."""
-    calendar, durations, starts = Progress(document).calendar, schedule.project.numbers().durations, schedule.starts
+    calendar, durations, starts = Actuals(document).calendar, schedule.question.numbers.durations, schedule.starts
     found, last = dict[str, tuple[str, str]](), ""
     for number, (uid, row) in enumerate(document.activities.items(), 1):
         start, end = starts[number], starts[number] + durations[number]

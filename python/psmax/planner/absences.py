@@ -4,7 +4,7 @@ from dataclasses import replace
 from ..errors import BadInput
 from ..files import read_text
 from ..letters import short
-from ..project import Absence, Project
+from ..project import Away, Numbers
 from .above import NOTE, WORDS
 from .columns import HEADS, Column, Columns
 from .csv_text import Sheet, cell, read_sheet
@@ -19,7 +19,7 @@ HEAD = {word: head for head, words in (  # in English, then in German
 ) for word in words.split()}
 
 
-def read_absences(path: str, project: Project, names: Names, terms: Terms) -> list[Absence]:
+def read_absences(path: str, project: Numbers, names: Names, terms: Terms) -> list[Away]:
     """By dates, of which the last is the last day away, or by the numbers of periods, as a resource's use is written.
     No first one is from the start on, no last one for ever, and no units are all. A period of which a part is away is
     away."""
@@ -63,7 +63,7 @@ def must_be_titles(path: str, sheet: Sheet, faults: Faults) -> None:
                                f"'title', and a note for people behind '{NOTE}'")
 
 
-def read_absence(row: Row, told: dict[str, str], places: dict[str, int], project: Project, names: Names) -> Absence:
+def read_absence(row: Row, told: dict[str, str], places: dict[str, int], project: Numbers, names: Names) -> Away:
     if told["resource"] not in names.resources:
         raise row.fault(places["resource"], f"no resource '{short(told['resource'])}'"
                         f"{did_you_mean(told['resource'], names.resources)}")
@@ -73,7 +73,7 @@ def read_absence(row: Row, told: dict[str, str], places: dict[str, int], project
     if units > project.capacities[resource]:
         raise row.fault(places["units"], f"{units} of {short(told['resource'])} can't be away, of which there are "
                         f"{project.capacities[resource]}")
-    return Absence(resource, begins, ends, units)
+    return Away(resource, begins, ends, units)
 
 
 def periods_away(row: Row, told: dict[str, str], places: dict[str, int]) -> tuple[int, int | None]:
@@ -89,7 +89,7 @@ def periods_away(row: Row, told: dict[str, str], places: dict[str, int]) -> tupl
     return begins, ends
 
 
-def must_be_there(row: Row, place: int, project: Project, names: Names, found: list[Absence]) -> None:
+def must_be_there(row: Row, place: int, project: Numbers, names: Names, found: list[Away]) -> None:
     """No more units are away at once than there are."""
     last = found[-1] if found else None
     if last is not None:

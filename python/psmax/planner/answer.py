@@ -7,7 +7,7 @@ from math import ceil
 from ..dates import read_moment
 from ..errors import BadInput
 from ..letters import at_most, printable, short
-from ..project import Project, least_end
+from ..project import Numbers, least_end
 from ..psmax import Psmax
 from .answer_text import AnswerText, Begin
 from .project_file import ProjectFile
@@ -15,10 +15,10 @@ from .wording import Words
 
 
 @dataclass(frozen=True)
-class Answer:
+class JudgedStarts:
     """Starts of every activity, and what psmax says of them."""
 
-    project: Project
+    project: Numbers
     starts: tuple[int, ...]
     said: str  # the first line of the answer that was handed in, if it had one
     value: int | None  # what is minimized, by `check`, where the starts are a feasible schedule
@@ -41,7 +41,7 @@ class Tied:
     pairs: dict[int, int]  # the project's number of each activity of the answer that it has
 
 
-def judged(opened: ProjectFile, given: AnswerText, psmax: Psmax) -> Answer:
+def judged(opened: ProjectFile, given: AnswerText, psmax: Psmax) -> JudgedStarts:
     """The starts of this answer, judged by psmax. What is no project, or has no start for an activity, is told."""
     given = counted(opened, given.must_have_starts())
     project, tied, words = opened.project, tie(opened, given), Words(opened)
@@ -51,10 +51,11 @@ def judged(opened: ProjectFile, given: AnswerText, psmax: Psmax) -> Answer:
         raise BadInput(*(f"{given.called}: {fault}" for fault in at_most(faults)))
     starts = tuple(tied.starts[activity] for activity in range(project.end + 1))
     found = psmax.check(project, starts)
-    return Answer(project, starts, given.said, found.value, tuple(words.violation(one, starts) for one in found.violations))
+    violations = tuple(words.violation(one, starts) for one in found.violations)
+    return JudgedStarts(project, starts, given.said, found.value, violations)
 
 
-def feasible(opened: ProjectFile, given: AnswerText, psmax: Psmax) -> Answer:
+def feasible(opened: ProjectFile, given: AnswerText, psmax: Psmax) -> JudgedStarts:
     """The same where psmax finds it feasible; whatever else is told as a fault."""
     known = judged(opened, given, psmax)
     if known.value is None:

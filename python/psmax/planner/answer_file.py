@@ -10,7 +10,7 @@ from ..errors import BadInput, Failed
 from ..files import read_bytes, write_new, write_whole
 from ..incumbent import Incumbent
 from ..psmax import Psmax
-from .answer import Answer, counted, feasible, tie
+from .answer import JudgedStarts, counted, feasible, tie
 from .answer_text import AnswerText, answer_of
 from .csv_text import write_sheet
 from .project_file import ProjectFile
@@ -24,10 +24,10 @@ class AnswerFile:
         self.path = path
         self.opened = opened
         self.written: bytes | None = None  # what it holds, as far as is known
-        self.there: Answer | None = None  # the schedule that it holds, if another put it there
+        self.there: JudgedStarts | None = None  # the schedule that it holds, if another put it there
         self.before: AnswerText | None = None  # the plan of the project before it was changed, if it holds that
 
-    def look(self) -> Answer | None:
+    def look(self) -> JudgedStarts | None:
         """The schedule of this project that the file holds; psmax finds it feasible."""
         data = read_bytes(self.path) if os.path.isfile(self.path) else None
         if data is not None and data != self.written:
@@ -35,7 +35,7 @@ class AnswerFile:
         self.written = data
         return self.there if data is not None else None
 
-    def schedule_in(self, data: bytes) -> Answer | None:
+    def schedule_in(self, data: bytes) -> JudgedStarts | None:
         """What holds no starts may go, but neither what is no answer nor the starts of another project."""
         if not data.strip() or data.startswith(WITHOUT_STARTS):
             return None
@@ -48,18 +48,20 @@ class AnswerFile:
             told = f"{self.path} is no schedule of {self.opened.path}, and would be lost; name another file with --out"
             raise BadInput(told, *fault.args) from None
 
-    def put(self, known: Incumbent) -> bool:
+    def put(self, best: Incumbent) -> bool:
         """Writes the best schedule, unless another one has put a shorter one there meanwhile. Says whether it is
         there."""
+        known = best.known
         if known.starts is None:
             return False
         there = self.look()
         if there is not None and there.starts[-1] < known.starts[-1]:
-            tell(known.clock, f"{self.path} holds a schedule of {known.goal.words(there.starts[-1])} by now, which stays")
+            value = known.goal.words(there.starts[-1])
+            tell(best.clock, f"{self.path} holds a schedule of {value} by now, which stays")
             return False
-        data = answer_text(known, self.opened, self.path.lower().endswith(".csv"))
+        data = answer_text(best, self.opened, self.path.lower().endswith(".csv"))
         if data != self.written:
-            self.keep_before(known.clock)
+            self.keep_before(best.clock)
             write_whole(self.path, data)
         self.written, self.there = data, None
         return True
@@ -75,12 +77,12 @@ class AnswerFile:
         tell(clock, f"{self.path} as it was is kept as {name}")
         self.before = None
 
-    def put_if_possible(self, known: Incumbent) -> None:
+    def put_if_possible(self, best: Incumbent) -> None:
         """The same while the search goes on; where it fails, that is told, and is tried again at the end."""
         try:
-            self.put(known)
+            self.put(best)
         except (BadInput, Failed) as fault:
-            tell(known.clock, f"{fault.args[0]}")
+            tell(best.clock, f"{fault.args[0]}")
 
 
 def before_change(opened: ProjectFile, data: bytes, path: str) -> AnswerText | None:
@@ -93,12 +95,12 @@ def before_change(opened: ProjectFile, data: bytes, path: str) -> AnswerText | N
     return given if given.names and 2 * len(tied.pairs) >= len(given.names) else None
 
 
-def answer_text(known: Incumbent, opened: ProjectFile, as_table: bool) -> bytes:
+def answer_text(best: Incumbent, opened: ProjectFile, as_table: bool) -> bytes:
     """What is known, with the names of the activities: as a table, or in the lines of psmax, the first of which, which
     psmax passes over, has the names."""
-    if as_table and known.starts is not None:
-        return write_sheet(rows(opened, known.starts, with_dates=False)).encode()
-    first, _, rest = known.answer().decode().partition("\n")
+    if as_table and best.known.starts is not None:
+        return write_sheet(rows(opened, best.known.starts, with_dates=False)).encode()
+    first, _, rest = best.answer().decode().partition("\n")
     activities = activities_of(opened)
     told = f" {json.dumps(activities, ensure_ascii=False)}" if any(opened.names.activities.values()) else ""
     return f"{first}{told}\n{rest}".encode()

@@ -26,7 +26,7 @@ PATIENCE = 2 * ENDING + RECORD  # seconds that a search may take to end when it 
 WIDTH, ROOM = 24, 40  # signs of the bar, and of what is told behind it
 
 
-class Bar:
+class ProgressBar:
     """How far a batch has come: a bar of one line on a terminal, and a line for each project elsewhere."""
 
     def __init__(self, total: int, clock: Clock) -> None:
@@ -139,7 +139,7 @@ def is_wanted(path: pathlib.Path) -> bool:
 def run(wanted: Batch, left: Sequence[Task], clock: Clock) -> Rows:
     """Searches the projects side by side, and puts each row as soon as it is known."""
     found: Rows = {}
-    with ThreadPoolExecutor(wanted.jobs) as jobs, Bar(len(left), clock) as bar:
+    with ThreadPoolExecutor(wanted.jobs) as jobs, ProgressBar(len(left), clock) as bar:
         pending: set[Future[Row | None]] = {jobs.submit(row_of, task, wanted, clock) for task in left}
         while pending:
             done, pending = wait(pending, return_when=FIRST_COMPLETED)

@@ -4,12 +4,12 @@ from dataclasses import dataclass, field, replace
 from ..clock import Clock
 from ..errors import BadInput
 from ..letters import at_most
-from ..project import MOST_ARCS, Arc, Project
+from ..project import MOST_ARCS, Arc, Numbers
 from ..psmax import Psmax
-from .answer import Answer, Tied, counted, feasible, tie
+from .answer import JudgedStarts, Tied, counted, feasible, tie
 from .answer_text import AnswerText, read_answer
 from .circles import circles, in_words
-from .progress import Progress
+from .progress import Standing
 from .project_file import ProjectFile
 from .window import stretches
 from .wording import Words
@@ -28,14 +28,14 @@ class Start:
 
 @dataclass(frozen=True)
 class Beginning:
-    project: Project  # that is searched
+    project: Numbers  # that is searched
     schedules: list[tuple[tuple[int, ...], str]] = field(default_factory=list)  # each with what it is called
     old: dict[int, int] = field(default_factory=dict)  # starts in a plan before, near to which the search begins
     frozen: tuple[Arc, ...] = ()  # that keep what has started, and the rest from starting before that
     started: frozenset[int] = frozenset()
     told: list[str] = field(default_factory=list)
 
-    def must_keep(self, there: Answer, path: str) -> None:
+    def must_keep(self, there: JudgedStarts, path: str) -> None:
         """A shorter schedule of the project that lies in a file stays there, so it can't get one that keeps more."""
         if any(there.starts[arc.head] < there.starts[arc.tail] + arc.lag for arc in self.frozen):
             value = there.project.goal.words(there.value)
@@ -82,13 +82,13 @@ def go_on(opened: ProjectFile, given: AnswerText) -> Beginning:
     return replace(found, told=[*told, *found.told])
 
 
-def frozen(opened: ProjectFile, tied: Tied, day: str) -> Progress:
+def frozen(opened: ProjectFile, tied: Tied, day: str) -> Standing:
     """What starts before the day in the old schedule has started there."""
     now = opened.time(day, "--frozen")
-    return Progress(now, {i: tied.starts[i] for i in range(1, opened.project.end) if tied.starts.get(i, now) < now})
+    return Standing(now, {i: tied.starts[i] for i in range(1, opened.project.end) if tied.starts.get(i, now) < now})
 
 
-def from_old(opened: ProjectFile, given: AnswerText, tied: Tied, progress: Progress, day: str) -> Beginning:
+def from_old(opened: ProjectFile, given: AnswerText, tied: Tied, progress: Standing, day: str) -> Beginning:
     """What has started stays, and the rest is planned from the status date on, as near as can be to the old
     schedule."""
     project, words, now = opened.project, Words(opened), progress.now or 0

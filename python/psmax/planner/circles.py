@@ -1,14 +1,14 @@
 """Lags that contradict each other: circles around which they add up to more than 0."""
 from collections.abc import Iterator
 
-from ..project import Arc, Project, lags_only
+from ..project import Arc, Numbers, lags_only
 from ..psmax import Psmax
 from .wording import Words
 
 MOST = 10
 
 
-def circles(project: Project, psmax: Psmax) -> Iterator[list[Arc]]:
+def circles(project: Numbers, psmax: Psmax) -> Iterator[list[Arc]]:
     """One circle after another, each once psmax finds it positive by itself. The maximum lag of each is left out for
     the next ones, so that all contradictions are met, and none twice."""
     arcs = project.rules()

@@ -3,7 +3,7 @@ them."""
 from collections.abc import Collection, Iterable, Sequence
 from fractions import Fraction
 
-from ..crew_hours import SPANS, Crews, Stretch, is_within, off_times, windows
+from ..crew_hours import SPANS, Crews, Stretch, is_within, off_times, hour_windows
 from ..dates import MIDNIGHT
 from ..letters import short
 from ..work_time import moment, shift
@@ -90,7 +90,7 @@ def must_fit(rows: Iterable[Row], durations: Sequence[int], demands: Sequence[Se
     off = crews.off(until)
     for number, row in enumerate(rows, 1):
         crew, duration = needed(demands[number - 1], crews), durations[number - 1]
-        found = windows(off, crew, crews.now, until) if crew and duration else []
+        found = hour_windows(off, crew, crews.now, until) if crew and duration else []
         with faults.kept():
             if crew and duration and number in started:
                 must_go_on(row, max(0, started[number] + duration - crews.now), found, crews.now)

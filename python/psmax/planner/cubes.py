@@ -5,7 +5,7 @@ import pathlib
 from collections import Counter
 from collections.abc import Mapping
 from contextlib import closing
-from dataclasses import dataclass
+from dataclasses import dataclass, replace
 
 from ..call_files import lose_none, same_file
 from ..clock import Clock, tell
@@ -15,7 +15,7 @@ from ..cubes.machines import Cluster, Machines, Processes
 from ..cubes.tree import WHOLE, Driven
 from ..errors import BadInput, Failed, TimeUp
 from ..incumbent import Incumbent
-from ..outcome import Solved
+from ..known import Known
 from ..programs import find_program
 from ..project_text import ProjectText
 from ..psprove import Psprove
@@ -44,45 +44,45 @@ class Places:
         return Cluster(self.cluster) if self.cluster else Processes(self.jobs, find_program(Psprove.name))
 
 
-def search(beginning: Beginning, known: Incumbent, places: Places) -> None:
+def search(beginning: Beginning, best: Incumbent, places: Places) -> None:
     """Runs until everything is known or the time is over. Cubes whose logs are wrong are searched again."""
     if beginning.project.dated:
         raise BadInput("a search in cubes has no cases, which lags in calendar days need; search without a folder")
     spelled, record = ProjectText(beginning.project), place_of(places.folder, places.record)
     with closing(Driven(pathlib.Path(places.folder), spelled.text)) as tree:
-        driver, wrong = Driver(tree, known, spelled), Counter[str]()
+        driver, wrong = Driver(tree, best, spelled), Counter[str]()
         for line in tree.look():
-            tell(known.clock, line)
+            tell(best.clock, line)
         while True:
             if tree.is_open():
                 driver.refute(places.machines())
-            bad = learn(tree, record, known, spelled) if any(tree.whole()) else {}
+            bad = learn(tree, record, best, spelled) if any(tree.whole()) else {}
             for name, fault in bad.items():
                 for path in tree.put_aside(name):
-                    tell(known.clock, f"cube {name or WHOLE}: {fault}: {path} is put aside")
+                    tell(best.clock, f"cube {name or WHOLE}: {fault}: {path} is put aside")
                 wrong[name] += 1
                 if wrong[name] == TRIES:
                     raise Failed(f"cube {name or WHOLE}: its log was wrong {TRIES} times")
-            if not bad or known.clock.over():
+            if not bad or best.clock.over():
                 break
-    if not known.settled and known.clock.over():
-        tell(known.clock, f"{known.clock.why_over()}; the same command goes on from here")
+    if not best.known.settled and best.clock.over():
+        tell(best.clock, f"{best.clock.why_over()}; the same command goes on from here")
 
 
-def learn(tree: Driven, record: str, known: Incumbent, spelled: ProjectText) -> dict[str, str]:
+def learn(tree: Driven, record: str, best: Incumbent, spelled: ProjectText) -> dict[str, str]:
     """Takes what the logs prove together. The faults of those that are wrong, by the names of their cubes."""
     clock = Clock()
     clock.listen()
     try:
         found = joined(tree, record, clock)
     except TimeUp:
-        tell(known.clock, "stopped before the record was there; `plan join` makes it")
+        tell(best.clock, "stopped before the record was there; `plan join` makes it")
         return {}
     finally:
-        known.clock.listen()
+        best.clock.listen()
     proof = PROVED.fullmatch(found.says)
     assert proof is not None
     bound = None if proof[3] is None else spelled.value(int(proof[3]))
-    known.learn(Solved(None, None, bound, 0, b"", known.goal), "psprove join")
-    known.conflicts = tree.conflicts
+    best.learn(Known(best.known.goal, bound=bound), "psprove join")
+    best.known = replace(best.known, conflicts=tree.conflicts)
     return found.bad

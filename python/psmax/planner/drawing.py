@@ -70,7 +70,7 @@ class Drawing:
 
 
 @dataclass(frozen=True)
-class Known:
+class Details:
     """What is known of the activities of a schedule, besides their starts."""
 
     windows: Mapping[int, Window] = field(default_factory=dict)
@@ -80,7 +80,7 @@ class Known:
     open: Collection[int] = ()  # whose total float is not known yet
 
 
-def make(opened: ProjectFile, starts: tuple[int, ...], title: str, notes: tuple[str, ...] = (), known: Known = Known(),
+def make(opened: ProjectFile, starts: tuple[int, ...], title: str, notes: tuple[str, ...] = (), known: Details = Details(),
          is_plan: bool = True) -> Drawing:
     project = opened.project
     begins = min(0, *starts[:-1])

@@ -11,10 +11,10 @@ from ..psmax import Psmax
 from ..psprove import Psprove
 from ..total import TotalFloat
 from . import drawing
-from .answer import Answer, feasible
+from .answer import JudgedStarts, feasible
 from .answer_text import read_answer
 from .beginning import Beginning, Start, begin_with
-from .gantt import Chart
+from .gantt import ChartWords
 from .project_file import ProjectFile, must_be_ordinary
 from .window import Window, windows
 from .write import Sheet, in_order, rows
@@ -32,7 +32,7 @@ class Total:
     start: Start
 
 
-def table(opened: ProjectFile, answer: Answer, found: dict[int, Window], total: TotalFloat | None) -> list[list[object]]:
+def table(opened: ProjectFile, answer: JudgedStarts, found: dict[int, Window], total: TotalFloat | None) -> list[list[object]]:
     """The rows of `plan write`, each with its free float, and perhaps with its total float."""
     head, *below = rows(opened, answer.starts)
     dated = opened.calendar is not None
@@ -51,7 +51,7 @@ def table(opened: ProjectFile, answer: Answer, found: dict[int, Window], total: 
     return made
 
 
-def text(opened: ProjectFile, answer: Answer, found: dict[int, Window], total: TotalFloat | None) -> str:
+def text(opened: ProjectFile, answer: JudgedStarts, found: dict[int, Window], total: TotalFloat | None) -> str:
     """The same to be read, a line for each activity."""
     heads = ["start", "earliest", "latest", "free"] if total is None else ["start", "latest", "total", "free"]
     order = sorted(found, key=lambda i: (answer.starts[i], i))
@@ -75,7 +75,7 @@ def cells(opened: ProjectFile, starts: tuple[int, ...], activity: int, window: W
     return [*(opened.times(activity, time)[0] for time in times), *spare, opened.length(window.float)]
 
 
-def floats(opened: ProjectFile, given: str | None, sheet: Sheet, chart: Chart, wanted: Total | None) -> int:
+def floats(opened: ProjectFile, given: str | None, sheet: Sheet, chart: ChartWords, wanted: Total | None) -> int:
     start = wanted.start if wanted is not None else Start(None, None)
     inputs = opened.inputs() | start.inputs() | {"the answer": given or STANDARD_INPUT}
     folder = None if wanted is None else sheet.out
@@ -99,7 +99,7 @@ def floats(opened: ProjectFile, given: str | None, sheet: Sheet, chart: Chart, w
         sheet.put(table(opened, known, found, total), opened)
     if chart.is_wanted:
         critical = total.critical() if total is not None else ()
-        chart.show(drawing.make(opened, known.starts, known.title(), (), drawing.Known(found, critical)))
+        chart.show(drawing.make(opened, known.starts, known.title(), (), drawing.Details(found, critical)))
     elif sheet.out is None or total is not None:
         print(text(opened, known, found, total), end="")
     return 3 if total is not None and total.open() else 0

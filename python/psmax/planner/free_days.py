@@ -54,10 +54,10 @@ def of_file(path: str, order: str | None, first: datetime.date) -> Days:
             found = of_line(text, order, first, f"{path}: line {number}")
             days |= found
             count += len(found)
-        except ValueError as fault:
-            faults.append(f"{path}: line {number}: {fault}")
         except BadInput as fault:
             faults.append(f"{fault}")
+        except ValueError as fault:
+            faults.append(f"{path}: line {number}: {fault}")
         if count > MOST_DAYS:
             raise BadInput(f"{path}: line {number}: up to here there are more than {MOST_DAYS:,} days without work")
     if faults:

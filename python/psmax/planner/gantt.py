@@ -137,7 +137,7 @@ def use_sign(units: int, capacity: int) -> str:
 
 
 @dataclass(frozen=True)
-class Chart:
+class ChartWords:
     """What the words of a command say of a chart that is drawn."""
 
     svg: str | None
@@ -156,7 +156,7 @@ class Chart:
             print(text(shown, self.width), end="")
 
 
-def gantt(opened: ProjectFile, given: str | None, chart: Chart, before: str | None = None) -> int:
+def gantt(opened: ProjectFile, given: str | None, chart: ChartWords, before: str | None = None) -> int:
     """Draws starts that are no feasible schedule too, with their violations."""
     if before is not None and chart.svg is None:
         raise BadInput("--baseline is for a picture, which --svg names")
@@ -168,6 +168,6 @@ def gantt(opened: ProjectFile, given: str | None, chart: Chart, before: str | No
         return 0
     known = judged(opened, answer, Psmax(Clock(), opened.path))
     lines = [] if known.value is None else verdict(opened, known.starts, known.value)
-    was = drawing.Known(was=baseline.read_baseline(opened, before))
+    was = drawing.Details(was=baseline.read_baseline(opened, before))
     chart.show(drawing.make(opened, known.starts, known.title(*lines[:1]), (*lines[1:], *known.violations), was))
     return 0

@@ -1,8 +1,7 @@
 """What is said first of an answer, in the planner's words: when the project ends, and which due dates are missed."""
 from collections.abc import Sequence
-from dataclasses import dataclass
 
-from ..outcome import Claim
+from ..known import Known
 from ..project import Goal
 from .project_file import ProjectFile
 from .wording import Words
@@ -11,20 +10,11 @@ MISSED = "LATE:"  # how the line begins that names what misses its due date
 MOST = 5  # activities that are named in a line
 
 
-def headline(opened: ProjectFile, known: Claim, starts: Sequence[int] | None) -> list[str]:
+def headline(opened: ProjectFile, known: Known) -> list[str]:
     """One line, and a second one where activities are due. Without dates the first one has the words of psmax."""
-    if starts is None or opened.calendar is None:
-        return [known.first_line(), *due_line(opened, starts)]
-    return [f"{known.status()}{told(opened, known, starts)}", *due_line(opened, starts)]
-
-
-@dataclass(frozen=True)
-class Proved(Claim):
-    """A schedule of this value, and that none has less than the bound."""
-
-    goal: Goal
-    value: int | None
-    bound: int | None
+    if known.starts is None or opened.calendar is None:
+        return [known.first_line(), *due_line(opened, known.starts)]
+    return [f"{known.status()}{told(opened, known, known.starts)}", *due_line(opened, known.starts)]
 
 
 def verdict(opened: ProjectFile, starts: Sequence[int], value: int) -> list[str]:
@@ -45,7 +35,7 @@ def called(opened: ProjectFile, value: int | None) -> str:
     return f"{words.brief(value, value > 0)} ({words.many(value)})"
 
 
-def told(opened: ProjectFile, known: Claim, starts: Sequence[int]) -> str:
+def told(opened: ProjectFile, known: Known, starts: Sequence[int]) -> str:
     value, bound, words = known.value or 0, known.bound or 0, Words(opened)
     rest = "" if known.settled else f", at least {late(words, bound) if known.goal is Goal.LATENESS else words.many(bound)}"
     return ends(opened, starts, value) + rest

@@ -5,7 +5,7 @@ from dataclasses import dataclass, field, replace
 
 from ..files import must_be_short, read_bytes
 from ..letters import composed
-from ..project import Project
+from ..project import Numbers
 from .settings import NAMES as SETTINGS
 
 CELL = re.compile(r"(?<!\\)\|")
@@ -71,7 +71,7 @@ def cell_text(cell: str) -> str:
     return "".join(sign if sign.isprintable() else " " for sign in cell.replace("\\|", "|")).strip()
 
 
-def page(title: str, project: Project, names: Names) -> str:
+def page(title: str, project: Numbers, names: Names) -> str:
     """The page of a project that was read from a table."""
     lines = [f"# {title}", "", f"The numbers, names and demands of `{title}.sch`. {MADE.format(names.source)}",
              DIGEST.format(names.digest), ""]

@@ -215,7 +215,7 @@ def add_float(one: argparse.ArgumentParser) -> None:
 
 def run_float(options: argparse.Namespace) -> int:
     from . import floats, gantt
-    chart = gantt.Chart(options.svg, options.width, options.chart or options.svg is not None)
+    chart = gantt.ChartWords(options.svg, options.width, options.chart or options.svg is not None)
     total = floats.Total(options.seconds, options.jobs, start(options)) if options.total else None
     return floats.floats(opened(options), options.answer, table(options), chart, total)
 
@@ -235,7 +235,7 @@ def add_gantt(one: argparse.ArgumentParser) -> None:
 
 def run_gantt(options: argparse.Namespace) -> int:
     from . import gantt
-    return gantt.gantt(opened(options), options.answer, gantt.Chart(options.svg, options.width), options.baseline)
+    return gantt.gantt(opened(options), options.answer, gantt.ChartWords(options.svg, options.width), options.baseline)
 
 
 def add_baseline(one: argparse.ArgumentParser) -> None:

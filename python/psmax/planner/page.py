@@ -60,7 +60,7 @@ class Page:
         critical = view.total.critical() if view.total is not None else set()
         started = view.total.started if view.total is not None else view.opened.progress.started
         self.open = view.open() if view.is_plan else set()
-        self.shown: Drawing = drawing.make(view.opened, view.starts, "", (), drawing.Known(
+        self.shown: Drawing = drawing.make(view.opened, view.starts, "", (), drawing.Details(
             view.windows, critical, started, view.was, self.open), view.is_plan)
         self.chart = Chart(self.shown, round(zoom * WIDTH[paper]), has_shares=True)
         self.lists = Tables(view.opened, view.starts, self.shown, view.total, self.open)

@@ -5,10 +5,10 @@ from collections.abc import Sequence
 from contextlib import suppress
 from dataclasses import dataclass, field
 
-from ..crew_hours import SPANS, Crews, Stretch, windows
+from ..crew_hours import SPANS, Crews, Stretch, hour_windows
 from ..dated import DatedLag
 from ..errors import BadInput
-from ..project import Arc, Project
+from ..project import Arc, Numbers
 from .columns import Column
 from .crews import needed
 from .faults import CellFault, Faults
@@ -98,7 +98,7 @@ class Cuts:
         """Those within some weeks after a time. The first and the last one may be cut."""
         now = self.crews.now
         until = self.crews.after(now if time is None else time, SPANS[0])
-        return windows(self.crews.off(until), crew, now, until)
+        return hour_windows(self.crews.off(until), crew, now, until)
 
     def name(self, activities: Activities) -> None:
         """A lag to a row that was cut is tied to its first part or to its last one."""
@@ -116,7 +116,7 @@ class Cuts:
         return [Arc(names[first], names[last], min(steps[one.crew], default=one.shift)) for one in self.found
                 for first, last in zip(one.parts, one.parts[1:])]
 
-    def lags(self, project: Project, names: dict[str, int]) -> tuple[list[Arc], list[DatedLag]]:
+    def lags(self, project: Numbers, names: dict[str, int]) -> tuple[list[Arc], list[DatedLag]]:
         """By which each part begins with the shift after that of the one before."""
         arcs, dated = list[Arc](), list[DatedLag]()
         for one in self.found:

@@ -1,14 +1,14 @@
 """A search for a plan in a thread of its own. What it knows is on the screen as soon as psprove's book holds it."""
 import os
 import threading
-from dataclasses import dataclass
+from dataclasses import dataclass, replace
 
 from ..clock import Clock
-from ..files import write_whole
 from ..incumbent import Incumbent
+from ..known import Known
 from ..project import Arc
 from ..psmax import Psmax
-from ..psprove import STOPPED, Psprove
+from ..psprove import STOPPED, Limits, Psprove
 from ..search import search
 from ..total import TotalFloat
 from .beginning import Beginning
@@ -22,7 +22,7 @@ from .wording import Words
 
 
 @dataclass(frozen=True)
-class Limits:
+class SearchLimits:
     """Of each search, and where its record goes."""
 
     seconds: float
@@ -31,7 +31,7 @@ class Limits:
 
 
 class PlanSearch(threading.Thread):
-    def __init__(self, screen: Screen, number: int, beginning: Beginning, limits: Limits, folder: str) -> None:
+    def __init__(self, screen: Screen, number: int, beginning: Beginning, limits: SearchLimits, folder: str) -> None:
         super().__init__(daemon=True)
         self.screen, self.number, self.beginning, self.limits, self.folder = screen, number, beginning, limits, folder
         self.opened: ProjectFile = screen.plans[number].opened
@@ -72,21 +72,22 @@ class PlanSearch(threading.Thread):
         finally:
             self.learn(stage="")
 
-    def search(self) -> Incumbent:
-        known = Incumbent(self.clock, self.beginning.project)
-        known.listener = lambda news: self.learn(value=news.value, bound=news.bound, starts=news.starts)
+    def search(self) -> Known:
+        best = Incumbent(self.clock, self.beginning.project)
+        best.listener = lambda known: self.learn(known=replace(known, record=None))
         for starts, called in self.beginning.schedules:
-            known.offer(starts, called)
-        psprove = Psprove(self.clock, self.opened.path)
-        search(self.beginning.project, psprove, known, self.limits.jobs, self.beginning.old)
+            best.offer(starts, called)
+        psprove = Psprove(self.clock, self.opened.path, self.folder)
+        limits = Limits(self.limits.seconds, self.limits.jobs)
+        search(self.beginning.project, psprove, best, limits, self.beginning.old)
+        known = best.known
         if known.value is None and not known.none and self.opened.project.horizon is not None:
             self.learn(trouble=(Words(self.opened).nothing_within(known.bound),))
-        if known.record:
+        if known.record is not None:
+            if self.limits.record is not None:
+                known.record.write(self.limits.record)
             path = os.path.join(self.folder, f"{self.number}.record")
-            for place in (path, self.limits.record):
-                if place is not None:
-                    write_whole(place, known.record)
-            self.learn(record=path)
+            self.learn(known=replace(known, record=known.record.keep(path)))
         return known
 
     def explain(self) -> None:
@@ -105,9 +106,7 @@ class PlanSearch(threading.Thread):
         """The free floats, by psmax, and then the total floats, which take longer. Their proofs aren't kept."""
         self.learn(stage="floats", windows=windows(self.opened.project, starts, Psmax(self.clock, self.opened.path)))
         psprove = Psprove(self.new_clock(), self.opened.path)
-        total = TotalFloat(self.beginning.project, starts, self.beginning.started, psprove)
+        total = TotalFloat(self.beginning.project, starts, self.beginning.started, psprove, is_recorded=False)
         total.run(self.limits.jobs)
-        for latest in total.found.values():
-            latest.record = b""
         if not self.is_ended:
             self.learn(total=total)

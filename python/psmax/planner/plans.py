@@ -8,9 +8,9 @@ from itertools import count
 
 from ..clock import Clock
 from ..errors import BadInput, Failed
-from ..files import read_bytes, write_new
-from ..outcome import Claim
-from ..project import Arc, Goal, Project
+from ..files import write_new
+from ..known import Known
+from ..project import Arc, Numbers
 from ..psmax import Psmax
 from ..record import record_in
 from ..total import TotalFloat
@@ -28,7 +28,7 @@ from .write import rows
 
 
 @dataclass(frozen=True)
-class Schedule:
+class PlanSchedule:
     """Starts of a table's activities."""
 
     opened: ProjectFile
@@ -48,20 +48,16 @@ class Schedule:
 
 
 @dataclass(frozen=True, eq=False)
-class Plan(Claim):
+class Plan:
     """A table, the plan that was on the screen when it was read, and what is known by now."""
 
     opened: ProjectFile
-    project: Project  # that is searched: the table's, and perhaps what stays
+    project: Numbers  # that is searched: the table's, and perhaps what stays
     at: str  # when it was read
-    before: Schedule | None
+    before: PlanSchedule | None
     shadow: tuple[int, ...]  # the starts of the plan before, as far as there are any
-    goal: Goal
-    value: int | None
-    bound: int | None
+    known: Known
     stage: str = "searching"
-    starts: tuple[int, ...] | None = None
-    record: str | None = None  # the file that proves the bound
     windows: Mapping[int, Window] = field(default_factory=dict)
     total: TotalFloat | None = None
     circle: tuple[Arc, ...] = ()  # of lags that contradict each other
@@ -70,19 +66,20 @@ class Plan(Claim):
     trouble: tuple[str, ...] = ()  # of its search
 
     @property
-    def schedule(self) -> Schedule | None:
-        return None if self.starts is None else Schedule(self.opened, self.starts)
+    def schedule(self) -> PlanSchedule | None:
+        return None if self.known.starts is None else PlanSchedule(self.opened, self.known.starts)
 
     def is_known(self) -> bool:
         """Whether there is something to show."""
-        return self.starts is not None or self.none
+        return self.known.starts is not None or self.known.none
 
     def proof(self) -> str:
         """What is proved, and by whom."""
-        if self.none:
+        known = self.known
+        if known.none:
             return "psprove has proved that there is no schedule. What is drawn is where the activities were before."
-        told = f"A schedule of {self.goal.words(self.value)} is known, and psprove has proved that none is "
-        return told + ("shorter." if self.settled else f"shorter than {self.goal.words(self.bound)}.")
+        told = f"A schedule of {known.goal.words(known.value)} is known, and psprove has proved that none is "
+        return told + ("shorter." if known.settled else f"shorter than {known.goal.words(known.bound)}.")
 
     def side(self) -> Side | None:
         """The plan before, beside this table; none where its times are none of this table's periods."""
@@ -92,12 +89,12 @@ class Plan(Claim):
             return None
 
     def view(self) -> View:
-        if self.starts is None:
+        if self.known.starts is None:
             return View(self.opened, self.shadow, self.proof(), circle=self.circle, is_plan=False)
         side = self.side()
         was = {} if side is None else {now: (side.starts[i], side.ends[i]) for i, now in side.now.items()}
-        return View(self.opened, self.starts, self.proof(), self.settled, self.windows, self.total, was,
-                    headline=(*headline(self.opened, self, self.starts),))
+        return View(self.opened, self.known.starts, self.proof(), self.known.settled, self.windows, self.total, was,
+                    headline=(*headline(self.opened, self.known),))
 
     def moved(self) -> tuple[list[str], list[Move]]:
         """What became of the makespan and of the activities since the plan before."""
@@ -112,7 +109,7 @@ class Plan(Claim):
 def keep(plan: Plan | None) -> list[str]:
     """Writes the answer, the record, the page and a copy of the table beside that, with its mode, and the time in their
     names, which it returns. What they hold is judged first: the schedule by psmax, and the record by `verify`."""
-    if plan is None or plan.starts is None:
+    if plan is None or plan.known.starts is None:
         raise BadInput("there is no plan on the screen")
     base = f"{os.path.splitext(plan.opened.path)[0]}-{datetime.datetime.now():%Y-%m-%d-%H%M%S}"
     for again in count():
@@ -125,11 +122,11 @@ def keep(plan: Plan | None) -> list[str]:
 
 def contents(plan: Plan, stem: str) -> dict[str, bytes]:
     """What each file holds, by its name. A record that `verify` doesn't accept is not kept."""
-    opened, starts, psmax = plan.opened, plan.starts or (), Psmax(Clock(), plan.opened.path)
+    opened, starts, psmax = plan.opened, plan.known.starts or (), Psmax(Clock(), plan.opened.path)
     table = write_sheet(rows(opened, starts, with_dates=False)).encode()
     answer, found, files = feasible(opened, answer_of(table, f"{stem}.csv"), psmax), None, {f"{stem}.csv": table}
-    if plan.record is not None:
-        record = record_in(read_bytes(plan.record, None), plan.project)
+    if plan.known.record is not None:
+        record = record_in(plan.known.record, plan.project)
         which = opened.path if plan.project == opened.project else f"{opened.path} that keeps what has started"
         with suppress(Failed):
             judgement = judged(record, os.path.basename(f"{stem}.record"), which)

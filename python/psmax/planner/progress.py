@@ -17,7 +17,7 @@ PERCENT = re.compile(r"([0-9]{1,3}(?:[.,][0-9]{1,3})?)\s*%?")
 
 
 @dataclass
-class Progress:
+class Standing:
     now: int | None  # the status date
     started: dict[int, int] = field(default_factory=dict)  # the real start of each activity that has one
 

@@ -15,14 +15,14 @@ from ..formats import FORMATS, must_be_readable, read
 from ..formats.sch import CTRL_Z
 from ..model import Group, Parts
 from ..project import Goal
-from ..project import Project as Numbers
+from ..project import Numbers
 from ..psmax import Psmax
 from ..project_text import ProjectText, parse
 from .columns import is_head
 from .csv_text import read_sheet
 from .answer_text import KEYS, LINE, WITH_STARTS, answer_sheet, json_object
 from .names import Names, names_in
-from .progress import Progress
+from .progress import Standing
 from .settings import Settings, calendar, checked, from_rows, time_of
 from .table import Table, read_table
 
@@ -59,8 +59,8 @@ class ProjectFile:
         return self.table.crews if self.table is not None else None
 
     @property
-    def progress(self) -> Progress:
-        return self.table.progress if self.table is not None else Progress(None)
+    def progress(self) -> Standing:
+        return self.table.progress if self.table is not None else Standing(None)
 
     @property
     def notes(self) -> tuple[str, ...]:
@@ -148,9 +148,9 @@ def open_other(path: str, data: bytes, words: Settings, page: str | None) -> Pro
     read(data, made, path)
     names = Names({one.number: one.name for one in made.activities}, [one.name for one in made.resources], ids=made.ids)
     told, days = Settings(title=made.name or None), frozenset[datetime.date]()
-    if made.work_time is not None:
-        time = made.work_time
-        told = Settings(time.first, time.period, time.workdays, shift=time.shift, zone=time.zone, title=told.title)
+    if made.calendar is not None:
+        time = made.calendar
+        told = Settings(time.begin, time.period, time.workdays, shift=time.shift, zone=time.zone, title=told.title)
         names.unit, days = time.period, frozenset(time.free_days)
     if page is not None:
         words = words.over(from_rows(names_in(page).settings, os.path.dirname(page)))
@@ -159,7 +159,7 @@ def open_other(path: str, data: bytes, words: Settings, page: str | None) -> Pro
         if getattr(settings, name) is not None:
             raise BadInput(f"{path}: --{name} is for tables")
     numbers, dates = made.numbers(settings.minimize or Goal.MAKESPAN.value), calendar(settings, names.unit, days)
-    if made.hours and (made.work_time is None or dates != made.work_time.calendar()):
+    if made.hours and (made.calendar is None or dates != made.calendar.calendar()):
         raise BadInput(f"{path}: resources have hours of their own, which need the days and hours of the file; leave out "
                        "--from and other words for these")
     return ProjectFile(path, numbers, names, settings, dates, {"the project": path}, parts=made)
@@ -211,6 +211,11 @@ def open_table(path: str, words: Settings, page: str | None = None) -> ProjectFi
     if is_in_code_page(read_bytes(path)):
         found = replace(found, notes=(f"{path} is no UTF-8, and is read in code page 1252, that of Windows", *found.notes))
     return of_table(path, found, {"the table": path} | ({} if page is None else {"the page of names": page}), text)
+
+
+def open_table_text(called: str, text: str) -> ProjectFile:
+    """The same of a text that is in no file."""
+    return of_table(called, read_table(called, text, Settings(), ""), {}, text)
 
 
 def of_table(path: str, found: Table, sources: dict[str, str], text: str) -> ProjectFile:

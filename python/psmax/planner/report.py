@@ -8,14 +8,15 @@ from ..call_files import lose_none, must_be_like
 from ..clock import Clock
 from ..errors import BadInput
 from ..files import STANDARD_INPUT, write_whole
+from ..known import Known
 from ..psmax import Psmax
 from ..psprove import Psprove
 from . import baseline
-from .answer import Answer, feasible
+from .answer import JudgedStarts, feasible
 from .answer_text import read_answer
 from .beginning import Start, begin_with
 from .floats import total_float
-from .headline import Proved, headline
+from .headline import headline
 from .headline import verdict as verdict_line
 from .page import Page, View, html
 from .project_file import ProjectFile
@@ -34,7 +35,7 @@ class Options:
     baseline: str | None = None
 
 
-def proof(answer: Answer, found: Verdict | None) -> str:
+def proof(answer: JudgedStarts, found: Verdict | None) -> str:
     """What is proved, and by whom."""
     which = answer.project.goal
     told = f"`psmax check` finds this schedule of {which.words(answer.value)} feasible: it keeps each lag and each resource. "
@@ -47,15 +48,17 @@ def digest(found: Verdict | None) -> str:
     """By which one knows the record again."""
     if found is None:
         return ""
-    size, text = len(found.record.data), hashlib.sha256(found.record.data).hexdigest()
-    return f"The record has {size:,} bytes and the SHA-256 {text}."
+    file = found.record.file
+    with open(file.path, "rb") as data:
+        text = hashlib.file_digest(data, "sha256").hexdigest()
+    return f"The record has {file.size():,} bytes and the SHA-256 {text}."
 
 
-def headline_of(answer: Answer, found: Verdict | None, opened: ProjectFile) -> tuple[str, ...]:
+def headline_of(answer: JudgedStarts, found: Verdict | None, opened: ProjectFile) -> tuple[str, ...]:
     """What is known of a schedule with the verdict on its record, if there is one."""
     if found is None:
         return (*verdict_line(opened, answer.starts, answer.starts[-1]),)
-    return (*headline(opened, Proved(answer.project.goal, answer.value, found.bound), answer.starts),)
+    return (*headline(opened, Known(answer.project.goal, answer.value, found.bound, answer.starts)),)
 
 
 def report(opened: ProjectFile, given: str | None, start: Start, options: Options) -> int:

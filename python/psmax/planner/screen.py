@@ -5,7 +5,7 @@ import threading
 from dataclasses import replace
 from typing import Any
 
-from .plans import Plan, Schedule
+from .plans import Plan, PlanSchedule
 
 MOST = 20  # plans that one can go back to
 
@@ -43,9 +43,9 @@ class Screen:
             return self.latest
 
     def forget(self, number: int) -> None:
-        record = self.plans.pop(number).record
+        record = self.plans.pop(number).known.record
         if record is not None:
-            os.unlink(record)
+            os.unlink(record.path)
 
     def learn(self, number: int, **news: Any) -> None:
         """What is known of a plan by now."""
@@ -75,7 +75,7 @@ class Screen:
         with self.changed:
             return self.plans.get(self.shown)
 
-    def schedule(self) -> Schedule | None:
+    def schedule(self) -> PlanSchedule | None:
         """That of the plan on the screen, or of the one before where it has none."""
         plan = self.plan()
         return None if plan is None else plan.schedule or plan.before

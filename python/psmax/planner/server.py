@@ -60,7 +60,7 @@ def said(plan: Plan | None, latest: Plan | None) -> str:
 
 
 def line_of(plan: Plan) -> str:
-    return headline(plan.opened, plan, plan.starts)[0]
+    return headline(plan.opened, plan.known)[0]
 
 
 @lru_cache(4)
@@ -68,7 +68,7 @@ def drawn(plan: Plan, zoom: float) -> dict[str, Any]:
     page, (heads, moves) = Page(plan.view(), zoom=zoom), plan.moved()
     lists = [[kind, [[one.name, one.text] for one in moves if one.kind == kind]] for kind in KINDS]
     return {"parts": page.parts(), "tables": page.tables(), "told": page.told(), "heads": heads,
-            "moved": [one for one in lists if one[1]], "shortest": plan.settled and not plan.none}
+            "moved": [one for one in lists if one[1]], "shortest": plan.known.settled and not plan.known.none}
 
 
 def change_in(body: bytes) -> str:

@@ -10,7 +10,7 @@ from ..dates import ORDERS, is_dated
 from ..errors import BadInput
 from ..letters import short
 from ..project import MOST_UNITS
-from ..work_time import WorkTime, moment, must_be_period
+from ..work_time import dates_of_periods, moment, must_be_period
 from .free_days import CODE, named_days
 from .quantities import Scale, Unit, day_of_serial, time_after
 
@@ -88,8 +88,8 @@ def calendar(settings: Settings, unit: str, days: frozenset[datetime.date] = fro
             if getattr(settings, name) is not None:
                 raise BadInput(f"--{name} needs --from, the first day of the project")
         return None
-    return WorkTime(settings.first, settings.period or unit, settings.workdays, holidays(settings) | days, settings.shift,
-                    settings.zone).calendar(settings.dates)
+    return dates_of_periods(settings.first, settings.period or unit, settings.workdays, holidays(settings) | days,
+                            settings.shift, settings.zone, settings.dates)
 
 
 def holidays(settings: Settings) -> frozenset[datetime.date]:

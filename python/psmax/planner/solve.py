@@ -10,11 +10,12 @@ from .. import __version__
 from ..call_files import lose_none, must_be_like
 from ..clock import Clock, tell
 from ..errors import Failed
-from ..files import write_whole
+from ..files import folder_of, write_whole
 from ..incumbent import Incumbent
+from ..known import Known
 from ..project import Goal
 from ..psmax import Psmax
-from ..psprove import Psprove
+from ..psprove import Limits, Psprove
 from ..record import BEGIN
 from ..search import search
 from . import drawing
@@ -41,6 +42,10 @@ class Options:
     json: bool
     places: "Places | None" = None  # of a search in cubes
 
+    def limits(self) -> Limits:
+        """Without a record where nobody asks for it."""
+        return Limits(self.seconds, self.jobs, is_recorded=self.record is not None)
+
 
 def solve(opened: ProjectFile, start: Start, options: Options) -> int:
     reads = opened.inputs() | start.inputs()
@@ -62,51 +67,52 @@ def solve(opened: ProjectFile, start: Start, options: Options) -> int:
     clock.listen()
     for line in [*first_line(opened), *opened.notes, *beginning.told]:
         tell(clock, line)
-    known = Incumbent(clock, beginning.project)
-    known.called, known.line = partial(called, opened), lambda: headline(opened, known, known.starts)[0]
+    best = Incumbent(clock, beginning.project)
+    best.called, best.line = partial(called, opened), lambda known: headline(opened, known)[0]
     if kept is not None:
-        known.better = partial(kept.put_if_possible, known)
+        best.better = partial(kept.put_if_possible, best)
     for starts, source in schedules:
-        known.offer(starts, f"{source}, by check")
+        best.offer(starts, f"{source}, by check")
     try:
         if options.places is not None:
             from . import cubes
-            cubes.search(beginning, known, options.places)
+            cubes.search(beginning, best, options.places)
         else:
-            psprove = Psprove(clock, opened.path)
+            psprove = Psprove(clock, opened.path, folder_of(options.record))
             near = start.answer or (before.called if before is not None else "")
-            search(beginning.project, psprove, known, options.jobs, beginning.old, near)
+            search(beginning.project, psprove, best, options.limits(), beginning.old, near)
     except Failed:
-        if known.starts is not None:
-            give(known, opened, options, kept)
+        if best.known.starts is not None:
+            give(best, opened, options, kept)
         raise
-    give(known, opened, options, kept)
-    return 0 if known.settled else 3
+    give(best, opened, options, kept)
+    return 0 if best.known.settled else 3
 
 
-def give(known: Incumbent, opened: ProjectFile, options: Options, kept: AnswerFile | None) -> None:
+def give(best: Incumbent, opened: ProjectFile, options: Options, kept: AnswerFile | None) -> None:
     """Prints what is known, and writes what was asked for. A schedule that can't be written is printed, in the lines of
     psmax, which have no room for dates; so these are told."""
+    known = best.known
     if known.value is None and not known.none and opened.project.horizon is not None:
-        tell(known.clock, Words(opened).nothing_within(known.bound))
-    plain, lines = known.answer().decode(), headline(opened, known, known.starts)
+        tell(best.clock, Words(opened).nothing_within(known.bound))
+    plain, lines = best.answer().decode(), headline(opened, known)
     is_plain = True
     try:
-        if kept is not None and kept.put(known):
+        if kept is not None and kept.put(best):
             plain, is_plain = "\n".join(lines) + "\n", False
     finally:
         for line in lines if (is_plain or options.json) and lines != [known.first_line()] else ():
-            tell(known.clock, line)
-        sys.stdout.write(as_json(known, opened) if options.json else plain)
+            tell(best.clock, line)
+        sys.stdout.write(as_json(known, opened, best.clock.elapsed()) if options.json else plain)
         sys.stdout.flush()
-    if options.record is not None and known.record:
-        write_whole(options.record, known.record)
+    if options.record is not None and known.record is not None:
+        known.record.keep(options.record)
     if options.svg is not None and known.starts is not None:
         from . import svg
         write_whole(options.svg, svg.draw(drawing.make(opened, known.starts, lines[0], tuple(lines[1:]))).encode())
 
 
-def as_json(known: Incumbent, opened: ProjectFile) -> str:
+def as_json(known: Known, opened: ProjectFile, seconds: float) -> str:
     """What is known as one line, with the keys of psmax first. Where the lateness is minimized, the bound is one of
     it."""
     starts = None if known.starts is None else opened.project.plain(known.starts)
@@ -120,7 +126,7 @@ def as_json(known: Incumbent, opened: ProjectFile) -> str:
         **lateness,
         **activities_of(opened),
         "conflicts": known.conflicts,
-        "seconds": round(known.clock.elapsed(), 3),
+        "seconds": round(seconds, 3),
         "versions": versions(),
     }
     return json.dumps(told) + "\n"

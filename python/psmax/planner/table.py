@@ -10,7 +10,7 @@ from ..dates import is_dated
 from ..errors import BadInput
 from ..letters import printable, short
 from ..model import Group
-from ..project import MOST_ACTIVITIES, MOST_ARCS, Arc, Goal, Project
+from ..project import MOST_ACTIVITIES, MOST_ARCS, Arc, Goal, Numbers
 from ..work_time import minutes_of, moment, workdays
 from .above import Above, read_above
 from .absences import read_absences
@@ -22,7 +22,7 @@ from .faults import Faults
 from .lags import START, START_OF, WITH, Activities, Lags, Side, lengths_in, shares_in
 from .names import Names
 from .pauses import Cuts
-from .progress import Progress
+from .progress import Standing
 from .quantities import Length, Scale, Unit, read_length, scale_of, units_of
 from .rows import Row, Terms, groups, is_summary, level, told_apart
 from .settings import HOURS_OF_WORK, Settings, calendar, checked, time_of
@@ -34,13 +34,13 @@ MOST_ROWS = 10_000  # of activities, and of what more is said of them
 class Table:
     """What a table of activities says."""
 
-    project: Project
+    project: Numbers
     names: Names
     settings: Settings
     calendar: Calendar | None
     groups: tuple[Group, ...]
     mornings: dict[int, list[int]]  # times at which a date says that an activity without duration may be, by activity
-    progress: Progress
+    progress: Standing
     scale: Scale
     rows: tuple[int, ...]  # in which the activities stand, as a spreadsheet numbers them
     notes: tuple[str, ...]  # what is to be said of it before anything is done with it
@@ -139,7 +139,7 @@ class Reading:
             row.must_be_below_heads()
 
     def table(self, above: Above) -> Table:
-        terms, progress = self.terms, Progress(self.time(self.settings.status, "status"))
+        terms, progress = self.terms, Standing(self.time(self.settings.status, "status"))
         crews = crews_of(terms, self.settings, progress.now or 0)
         self.named = told_apart(self.named)
         cuts = self.cut(crews)
@@ -169,7 +169,7 @@ class Reading:
                      tuple(row.number for row in self.rows), tuple(notes), above, terms.columns,
                      terms.head_row, crews, pauses)
 
-    def with_crews(self, project: Project, crews: Crews | None, cuts: Cuts | None) -> tuple[Project, tuple[Arc, ...]]:
+    def with_crews(self, project: Numbers, crews: Crews | None, cuts: Cuts | None) -> tuple[Numbers, tuple[Arc, ...]]:
         """With the times outside hours, and with what ties the parts of rows that may pause, which stands behind all
         other arcs."""
         if crews is None or cuts is None:
@@ -301,7 +301,7 @@ class Reading:
                 with self.faults.kept():
                     raise row.fault(column, "a group has no dates or demands of its own; its activities have them")
 
-    def project(self, arcs: tuple[Arc, ...], due: dict[int, int], called: dict[int, str]) -> tuple[Project, Names]:
+    def project(self, arcs: tuple[Arc, ...], due: dict[int, int], called: dict[int, str]) -> tuple[Numbers, Names]:
         """With its absences, and with what is minimized."""
         file, settings = self.terms.file, self.settings
         if len(arcs) > MOST_ARCS:
@@ -312,7 +312,7 @@ class Reading:
         resources = [resource(self.terms.columns.heads[place]) for place in self.terms.columns.resources]
         none = (0,) * len(resources)
         capacities = tuple(int(units) for _, units in resources)
-        found = Project((0, *self.durations, 0), (none, *self.demands, none), capacities, arcs, (), due, goal)
+        found = Numbers((0, *self.durations, 0), (none, *self.demands, none), capacities, arcs, (), due, goal)
         names = Names(called, [name for name, _ in resources], self.terms.scale.name(), source=printable(file))
         if settings.absences is not None:
             found = replace(found, absences=tuple(read_absences(settings.absences, found, names, self.terms)))
@@ -343,7 +343,7 @@ class Reading:
         return [f"from {first}: no period begins then, so the project starts at {calendar.begins(0):%Y-%m-%d %H:%M}"]
 
 
-def without_history(arcs: Sequence[Arc], progress: Progress, dated: Sequence[DatedLag]) -> tuple[list[Arc], list[Arc]]:
+def without_history(arcs: Sequence[Arc], progress: Standing, dated: Sequence[DatedLag]) -> tuple[list[Arc], list[Arc]]:
     """The lags but for those between two that have started where they weren't kept, and these. Both starts are real, so
     such a lag says nothing of what comes."""
     starts = progress.started | {0: 0}

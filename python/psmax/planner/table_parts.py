@@ -4,7 +4,7 @@ from collections.abc import Iterable, Mapping
 from ..api import Project
 from ..errors import BadInput
 from ..letters import at_most
-from ..model import Activity, Point
+from ..model import Activity, Parts, Point
 from ..project import Arc
 from ..work_time import WorkTime
 from .project_file import ProjectFile
@@ -15,14 +15,20 @@ Before = Mapping[int, set[int]]  # from which activities minimum lags lead to ea
 
 
 def as_parts(opened: ProjectFile) -> Project:
-    """The same project. What has no place in one by names is told at once."""
+    """The same project."""
+    made = Project()
+    fill_from_table(made, opened)
+    return made
+
+
+def fill_from_table(made: Parts, opened: ProjectFile) -> None:
+    """Reads it into an empty one. What has no place in one by names is told at once."""
     numbers, table, settings, words = opened.project, opened.table, opened.settings, Words(opened)
     faults = [f"no other format has lags in calendar days, or parts tied to shifts that differ: {words.lag(arc)}"
               for arc in words.dated]
     if faults or table is None:
         raise BadInput(*at_most([f"{opened.path}: {fault}" for fault in faults]))
-    made = Project(settings.title or "")
-    made.work_time = work_time(opened)
+    made.name, made.calendar = settings.title or "", work_time(opened)
     units = [made.resource(opened.names.resource(k), count) for k, count in enumerate(numbers.capacities)]
     made.hours = {units[k]: hours for k, hours in table.columns.hours().items()}
     for i in range(1, numbers.end):
@@ -34,7 +40,6 @@ def as_parts(opened: ProjectFile) -> Project:
     made.status, made.started = opened.progress.now or None, {**opened.progress.started}
     soonest = {arc.head: arc.lag for arc in sorted(numbers.arcs) if arc.tail == 0}
     add_lags(made, dict.fromkeys(arc for arc in numbers.arcs if arc.tail or soonest[arc.head] == arc.lag))
-    return made
 
 
 def work_time(opened: ProjectFile) -> WorkTime | None:
@@ -46,7 +51,7 @@ def work_time(opened: ProjectFile) -> WorkTime | None:
                     settings.zone)
 
 
-def add_lags(made: Project, arcs: Iterable[Arc]) -> None:
+def add_lags(made: Parts, arcs: Iterable[Arc]) -> None:
     """What is 0 or more is a least length. What is below 0 is a greatest one the other way round where minimum lags
     lead that way, and else a least one too. Each counts from the end of an activity where it is no shorter than
     that."""
@@ -66,7 +71,7 @@ def add_lags(made: Project, arcs: Iterable[Arc]) -> None:
             made.lag(Point(head, from_end), tail.start, at_most=-arc.lag - head.duration * from_end)
 
 
-def add_to_project(made: Project, arc: Arc, tail: Activity | None, head: Activity | None) -> None:
+def add_to_project(made: Parts, arc: Arc, tail: Activity | None, head: Activity | None) -> None:
     """From the start of the project, or to its start or end."""
     if tail is None and head is not None and arc.tail == 0:
         made.lag(made.start, head.start, at_least=arc.lag)
@@ -78,7 +83,7 @@ def add_to_project(made: Project, arc: Arc, tail: Activity | None, head: Activit
         made.lag(made.end, head.start, at_least=arc.lag)
 
 
-def add_least(made: Project, tail: Activity, head: Activity, lag: int) -> None:
+def add_least(made: Parts, tail: Activity, head: Activity, lag: int) -> None:
     """From the end to the start, from the end to the end, or from the start to the start."""
     if lag >= tail.duration:
         made.lag(tail.end, head.start, at_least=lag - tail.duration)

@@ -76,7 +76,7 @@ class Axis:
         return []
 
 
-class Dates(Axis):
+class DateAxis(Axis):
     """Places in minutes by the clock."""
 
     def __init__(self, shown: Drawing, calendar: Calendar, width: float) -> None:
@@ -143,7 +143,7 @@ class Dates(Axis):
 
 
 def axis_of(shown: Drawing, width: float) -> Axis:
-    return Axis(shown, width) if shown.calendar is None else Dates(shown, shown.calendar, width)
+    return Axis(shown, width) if shown.calendar is None else DateAxis(shown, shown.calendar, width)
 
 
 def begin_of(kind: str, moment: datetime.datetime) -> datetime.datetime:

@@ -6,7 +6,7 @@ from dataclasses import dataclass, field
 
 from ..clock import Clock
 from ..cubes.machines import CHECK, Cluster, Machines, Processes
-from ..cubes.parts import Parts
+from ..cubes.parts import RecordParts
 from ..files import read_bytes
 from ..programs import find_program
 from ..project import Goal
@@ -14,6 +14,7 @@ from ..project_text import ProjectText
 from ..psmax import Psmax
 from ..psprove import Psprove
 from ..record import OF_PSMAX, WRONG, Record, record_in
+from ..record_file import RecordFile, record_at
 from .beginning import Start, begin_with
 from .project_file import ProjectFile
 
@@ -38,7 +39,7 @@ class Verdict:
     @property
     def bound(self) -> int | None:
         """A lower bound of what is minimized; none where there is no schedule."""
-        return self.record.bound(self.told)
+        return self.record.bound_by(self.told)
 
     def sentence(self) -> str:
         if self.wrong:
@@ -85,10 +86,10 @@ class Shares:
     def here(self) -> Machines:
         return Processes(self.jobs, find_program(Psprove.name), CHECK)
 
-    def parts(self, path: str, text: bytes) -> Parts:
+    def parts(self, path: str, text: bytes) -> RecordParts:
         if self.cluster is None:
-            return Parts(path, text, self.here(), Clock())
-        return Parts(path, text, Cluster(self.cluster, CHECK), Clock(), self.here())
+            return RecordParts(path, text, self.here(), Clock())
+        return RecordParts(path, text, Cluster(self.cluster, CHECK), Clock(), self.here())
 
 
 def verdict(opened: ProjectFile, path: str, start: Start, shares: Shares | None = None) -> Verdict:
@@ -97,11 +98,11 @@ def verdict(opened: ProjectFile, path: str, start: Start, shares: Shares | None 
     project, which = begin_with(opened, start).project, f"{opened.path}{keeps}"
     begin = b"" if shares is None else read_bytes(path, len(OF_PSMAX) - 1)
     if shares is None or begin == OF_PSMAX or project.dated:
-        return judged(record_in(read_bytes(path, None), project), path, which)
+        return judged(record_in(record_at(path), project), path, which)
     spelled = ProjectText(project)
     found = shares.parts(path, spelled.text).check()
-    return Verdict(path, Record(begin, spelled), which, Psprove.name, "verify_log.py", found.says, found.is_wrong,
-                   found.count, found.own, found.believed)
+    return Verdict(path, Record(RecordFile(path), spelled), which, Psprove.name, "verify_log.py", found.says,
+                   found.is_wrong, found.count, found.own, found.believed)
 
 
 def judged(record: Record, path: str, which: str) -> Verdict:

@@ -17,6 +17,7 @@ from ..call_files import lose_none, must_be_like
 from ..clock import Clock
 from ..errors import BadInput, Failed, Fault
 from ..files import BLANKS, DASH, SPREADSHEET, Saves, read_bytes, read_text
+from ..known import Known
 from ..project_text import ProjectText
 from ..record import BEGIN
 from .above import read_above
@@ -27,8 +28,8 @@ from .columns import is_head
 from .csv_text import read_sheet
 from .faults import explained
 from .page import More, file, html
-from .plan_search import Limits, PlanSearch
-from .plans import Plan, Schedule, keep
+from .plan_search import SearchLimits, PlanSearch
+from .plans import Plan, PlanSchedule, keep
 from .project_file import ProjectFile, open_project
 from .screen import Screen
 from .server import Server
@@ -133,19 +134,19 @@ class Watch:
             anew.told.extend([f"{fault}", "the plan before is not taken over"])
             return anew
 
-    def plan(self, opened: ProjectFile, beginning: Beginning, schedule: Schedule | None, given: AnswerText | None) -> None:
+    def plan(self, opened: ProjectFile, beginning: Beginning, schedule: PlanSchedule | None, given: AnswerText | None) -> None:
         """Where the project is the same, the plan and its search stay, perhaps with other names or dates. Else the page
         says so first, since a search may take seconds to end."""
         now, notes = self.screen.plans.get(self.screen.latest), (*opened.notes, *beginning.told)
         if now is not None and now.project == beginning.project and now.opened.project == opened.project:
-            is_told_so = schedule is None or schedule.told() == Schedule(opened, schedule.starts).told()
+            is_told_so = schedule is None or schedule.told() == PlanSchedule(opened, schedule.starts).told()
             self.screen.learn(self.screen.latest, opened=opened, before=now.before if is_told_so else schedule)
             return self.screen.tell(())
         number = self.screen.add(Plan(
             opened, beginning.project, f"{datetime.datetime.now():%H:%M:%S}", schedule, shadow(opened, given),
-            opened.project.goal, None, ProjectText(beginning.project).value(0), notes=notes))
+            Known(opened.project.goal, bound=ProjectText(beginning.project).value(0)), notes=notes))
         self.stop()
-        limits = Limits(self.options.seconds, self.options.jobs, self.options.record)
+        limits = SearchLimits(self.options.seconds, self.options.jobs, self.options.record)
         self.search = PlanSearch(self.screen, number, beginning, limits, self.folder)
         self.search.start()
 
@@ -169,7 +170,7 @@ class Watch:
         plan = self.screen.plan()
         if plan is None:
             raise BadInput("nothing is planned yet")
-        return f"{text}: {tried(plan.opened, plan.starts, text, self.options.seconds)}"
+        return f"{text}: {tried(plan.opened, plan.known.starts, text, self.options.seconds)}"
 
     def stop(self) -> str:
         """Ends the search, whose record is whole then."""
@@ -194,7 +195,7 @@ class Watch:
         """Ends the search, and keeps what was found, unless it is kept already."""
         self.stop()
         plan = self.screen.plan()
-        if plan is not None and plan.starts is not None and self.kept != self.screen.shown:
+        if plan is not None and plan.known.starts is not None and self.kept != self.screen.shown:
             yield self.keep()
 
 

@@ -7,8 +7,7 @@ from concurrent.futures import ThreadPoolExecutor
 from ..calendars import DAY
 from ..call_files import lose_none
 from ..clock import Clock
-from ..incumbent import Incumbent
-from ..outcome import Solved
+from ..known import Known
 from ..project import Goal
 from ..psprove import Limits, Psprove
 from ..whatif import Change, ChangeKind, Outcome
@@ -26,7 +25,7 @@ SCENARIO_HEADS = ["change", "status", "ends", "makespan", "bound", "seconds"]
 HEADS = ["kind", "change", "status", "makespan", "bound", "shorter", "seconds"]
 
 
-def row(one: Outcome, base: Incumbent, words: Words) -> list[object]:
+def row(one: Outcome, base: Known, words: Words) -> list[object]:
     known = one.known
     shorter = base.value - known.value if base.value is not None and known.value is not None else None
     told = ["" if value is None else value for value in (known.value, known.bound, shorter)]
@@ -65,10 +64,11 @@ def asked(opened: ProjectFile, changes: Sequence[str], seconds: float, jobs: int
     clock = Clock(seconds)
     clock.listen()
 
-    def known(place: int) -> tuple[Solved, float]:
+    def known(place: int) -> tuple[Known, float]:
         """By one job beside others, in its share of the time that is left."""
         psprove, begun, left = Psprove(clock, opened.path), clock.elapsed(), clock.left()
-        answer = psprove.ask(files[place].project, Limits(min(left, left * jobs / (len(files) - place))))
+        limits = Limits(min(left, left * jobs / (len(files) - place)), is_recorded=False)
+        answer = psprove.ask(files[place].project, limits)
         return answer, clock.elapsed() - begun
 
     with ThreadPoolExecutor(jobs) as pool:
@@ -80,7 +80,7 @@ def asked(opened: ProjectFile, changes: Sequence[str], seconds: float, jobs: int
         sheet.put([[*SCENARIO_HEADS], *rows], opened)
     else:
         before = found[0][0].starts
-        told = [headline(file, one, one.starts)[0] + (moved(opened, before, file, one.starts) if file is not opened else "")
+        told = [headline(file, one)[0] + (moved(opened, before, file, one.starts) if file is not opened else "")
                 for file, (one, _) in zip(files, found)]
         wide = max(map(len, names))
         print(*(f"{name:{wide}}  {line}" for name, line in zip(names, told)), sep="\n")
@@ -90,8 +90,8 @@ def asked(opened: ProjectFile, changes: Sequence[str], seconds: float, jobs: int
 def tried(opened: ProjectFile, starts: Sequence[int] | None, change: str, seconds: float) -> str:
     """What a change gives beside a plan that is known."""
     file = Scenario(opened, change).project()
-    one = Psprove(Clock(seconds), opened.path).ask(file.project, Limits(seconds))
-    return headline(file, one, one.starts)[0] + moved(opened, starts, file, one.starts)
+    one = Psprove(Clock(seconds), opened.path).ask(file.project, Limits(seconds, is_recorded=False))
+    return headline(file, one)[0] + moved(opened, starts, file, one.starts)
 
 
 def moved(was: ProjectFile, before: Sequence[int] | None, file: ProjectFile, after: Sequence[int] | None) -> str:
@@ -112,14 +112,14 @@ def end_of(file: ProjectFile, starts: Sequence[int] | None) -> datetime.datetime
     return file.calendar.span(last, last)[1]
 
 
-def text(base: Incumbent, outcomes: list[Outcome], words: Words) -> list[str]:
+def text(base: Known, outcomes: list[Outcome], words: Words) -> list[str]:
     """What gives a shorter schedule, then what may, and how many do not."""
     better = [one for one in outcomes if one.known.value is not None
               and (base.value is None or one.known.value < base.value)]
     late = [one for one in outcomes if not one.known.was_asked]
     may = [one for one in outcomes if one not in better and one not in late and not one.known.settled]
-    told = [f"As it is: {headline(words.opened, base, base.starts)[0]}."]
-    told += [f"  {headline(words.opened, one.known, one.known.starts)[0]}: {change_text(one.change, words)}"
+    told = [f"As it is: {headline(words.opened, base)[0]}."]
+    told += [f"  {headline(words.opened, one.known)[0]}: {change_text(one.change, words)}"
              for one in [*better, *may]]
     others = len(outcomes) - len(better) - len(may) - len(late)
     if others:

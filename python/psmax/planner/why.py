@@ -1,71 +1,27 @@
 """`plan why`: why a project has no schedule, or none that ends in time. psprove proves each cause."""
-import os
 from collections.abc import Callable
-from dataclasses import dataclass, field, replace
+from dataclasses import replace
 
 from ..call_files import lose_none, must_be_empty
 from ..clock import Clock, tell
+from ..core import Core, find_core
 from ..errors import BadInput, TimeUp
-from ..files import write_whole
-from ..outcome import Solved
-from ..project import MOST_UNITS, Arc, Goal, Kind, Part, Project, parts, too_needy, with_lag, within, without
-from ..project_text import ProjectText
-from ..psmax import Psmax, starts_text
+from ..known import Known
+from ..project import MOST_UNITS, Arc, Goal, Kind, Numbers, Part, too_needy, with_lag, within, without
+from ..psmax import Psmax
 from ..psprove import Limits, Psprove
 from .beginning import Start, begin_with
 from .circles import circles, in_words
 from .project_file import ProjectFile, must_be_ordinary
 from .wording import Words, are
 
-FIRST = 1_000  # conflicts of a first search, which mostly finds a schedule where there is one
 CONFLICTS = 10_000  # of a search of the project without one of its lags, or with a longer one
-LEAST = 2_000  # conflicts that a search for a core may have; more where the first proof took many
-MANY = 4  # times those of the first proof
-
-
-@dataclass
-class Core:
-    """A smallest set of maximum lags, resources and absences that contradict each other: without any one of them there
-    is a schedule."""
-
-    project: Project  # which has no schedule
-    fixed: set[Part]  # that nobody asks about: a deadline, and what has started
-    record: bytes  # proves that there is none, also without what is gone
-    gone: set[Part] = field(default_factory=set)
-    schedules: dict[Part, tuple[int, ...]] = field(default_factory=dict)  # of what is left without that part
-
-    def parts(self) -> list[Part]:
-        return [part for part in parts(self.project) if part not in self.fixed and part not in self.gone]
-
-    def shrink(self, psprove: Psprove, conflicts: int) -> None:
-        """Leaves out one part after the other where psprove proves that there is still no schedule. The first proof
-        took so many conflicts. What is left when the time is over may have parts that are not needed."""
-        for part in self.parts():
-            limits = Limits(psprove.clock.left(), conflicts=max(LEAST, MANY * conflicts))
-            answer = psprove.ask(without(self.project, {*self.gone, part}), limits)
-            if answer.none:
-                self.gone.add(part)
-                self.record = answer.record
-            elif answer.starts is not None:
-                self.schedules[part] = answer.starts
-
-    def write(self, folder: str) -> None:
-        """What is left and the record, and for each part what is left without it and a schedule."""
-        os.makedirs(folder, exist_ok=True)
-        files = {"core.sch": ProjectText(without(self.project, self.gone)).text, "core.record": self.record}
-        for place, part in enumerate(self.parts(), 1):
-            if part in self.schedules:
-                spelled = ProjectText(without(self.project, {*self.gone, part}))
-                files[f"without-{place}.sch"] = spelled.text
-                files[f"without-{place}.starts"] = starts_text(spelled.inward(self.schedules[part]))
-        for name, data in files.items():
-            write_whole(os.path.join(folder, name), data)
 
 
 class Causes:
     """What there is to say goes to `say`, line by line; `arcs` are the lags that it is about."""
 
-    def __init__(self, opened: ProjectFile, project: Project, clock: Clock, jobs: int, deadline: int | None,
+    def __init__(self, opened: ProjectFile, project: Numbers, clock: Clock, jobs: int, deadline: int | None,
                  say: Callable[[str], object] = print) -> None:
         self.say, self.arcs = say, list[Arc]()
         self.psmax, self.psprove, self.jobs = Psmax(clock, opened.path), Psprove(clock, opened.path), jobs
@@ -81,18 +37,14 @@ class Causes:
 
     def tell_all(self, out: str | None) -> int:
         """Prints why there is no schedule; the exit status is 3 where psprove can't say whether there is one."""
-        answer = self.psprove.solve(self.project, self.limits(FIRST))
-        if not answer.none and answer.starts is None:
-            answer = self.psprove.solve(self.project, self.limits(None))
+        answer, found = find_core(self.project, self.fixed, self.psprove, self.jobs)
         if answer.starts is not None:
             self.say(f"There is a schedule{self.late}: psprove has found one of {answer.goal.words(answer.value)}.")
             return 0
-        if not answer.none:
+        if found is None:
             self.say(f"Not known: psprove found neither a schedule{self.late} nor that there is none.")
             return 3
         self.say(f"There is no schedule{self.late}.")
-        found = Core(self.project, self.fixed, answer.record)
-        found.shrink(self.psprove, answer.conflicts)
         self.tell_core(found)
         if out is not None:
             found.write(out)
@@ -107,9 +59,6 @@ class Causes:
             self.lags_that_open([part.number for part in found.parts() if part.kind is Kind.LAG])
             self.later_end()
         return 0
-
-    def limits(self, conflicts: int | None) -> Limits:
-        return Limits(self.psprove.clock.left(), self.jobs if conflicts is None else 1, conflicts)
 
     def tell_core(self, found: Core) -> None:
         """What contradicts each other; one alone does so with the minimum lags and what is fixed."""
@@ -141,7 +90,7 @@ class Causes:
         elif all(answer.none for answer in answers):
             self.say("No maximum lag, taken out alone, opens a schedule.")
 
-    def without_lag(self, place: int) -> Solved:
+    def without_lag(self, place: int) -> Known:
         arc = self.project.arcs[place]
         answer = self.ask(without(self.project, {Part(Kind.LAG, place)}))
         if answer.starts is not None:
@@ -163,8 +112,9 @@ class Causes:
             more = self.words.allowed(self.project.arcs[-1], answer.value - self.deadline)
             self.say(f"{more}, which is enough, and {also}.")
 
-    def ask(self, project: Project) -> Solved:
-        return self.psprove.ask(project, self.limits(CONFLICTS))
+    def ask(self, project: Numbers) -> Known:
+        limits = Limits(self.psprove.clock.left(), conflicts=CONFLICTS, is_recorded=False)
+        return self.psprove.ask(project, limits)
 
     def least_enough(self, place: int, found: tuple[int, ...]) -> tuple[int, bool]:
         """How long a maximum lag must be at least, and whether less is known to be too little: halves what lies between

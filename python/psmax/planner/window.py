@@ -4,7 +4,7 @@ from dataclasses import dataclass
 
 from ..dated import DatedLag
 from ..errors import Failed
-from ..project import Project
+from ..project import Numbers
 from ..psmax import Psmax
 
 
@@ -29,19 +29,19 @@ class Window:
         return self.latest - self.earliest
 
 
-def stretches(project: Project, starts: Sequence[int], resource: int) -> tuple[Stretch, ...]:
+def stretches(project: Numbers, starts: Sequence[int], resource: int) -> tuple[Stretch, ...]:
     """The use of one resource, from one start or end to the next, where it is above 0."""
     return steps([(start, start + duration, demands[resource])
                   for start, duration, demands in zip(starts, project.durations, project.demands)])
 
 
-def away(project: Project, resource: int, until: int) -> tuple[Stretch, ...]:
+def away(project: Numbers, resource: int, until: int) -> tuple[Stretch, ...]:
     """The units of a resource that are away, up to a time."""
     return steps([(one.begins, until if one.ends is None else one.ends, one.units)
                   for one in project.absences if one.resource == resource])
 
 
-def off(project: Project, resource: int) -> tuple[Stretch, ...]:
+def off(project: Numbers, resource: int) -> tuple[Stretch, ...]:
     """The times outside the hours of a resource."""
     return tuple(Stretch(one.begins, one.ends, project.capacities[resource]) for one in project.off if one.resource == resource)
 
@@ -62,7 +62,7 @@ def steps(uses: Iterable[tuple[int, int, int]]) -> tuple[Stretch, ...]:
     return tuple(found)
 
 
-def windows(project: Project, starts: tuple[int, ...], psmax: Psmax) -> dict[int, Window]:
+def windows(project: Numbers, starts: tuple[int, ...], psmax: Psmax) -> dict[int, Window]:
     """The window of each activity of a feasible schedule. psmax confirms the first and the last start of each."""
     used = [used_or_away(project, starts, resource) for resource in range(len(project.capacities))]
     found = by_lags(project, starts)
@@ -77,7 +77,7 @@ def windows(project: Project, starts: tuple[int, ...], psmax: Psmax) -> dict[int
     return found
 
 
-def groups(project: Project, starts: tuple[int, ...], moves: list[tuple[int, int]]) -> list[dict[int, int]]:
+def groups(project: Numbers, starts: tuple[int, ...], moves: list[tuple[int, int]]) -> list[dict[int, int]]:
     """Moves of activities, in groups of which one check confirms each move alone: no lag ties two of a group, and no
     two use one resource at the same time, before or behind their moves."""
     tied: list[set[int]] = [{activity} for activity in range(project.end + 1)]
@@ -100,7 +100,7 @@ def groups(project: Project, starts: tuple[int, ...], moves: list[tuple[int, int
     return found
 
 
-def used_or_away(project: Project, starts: Sequence[int], resource: int) -> tuple[Stretch, ...]:
+def used_or_away(project: Numbers, starts: Sequence[int], resource: int) -> tuple[Stretch, ...]:
     """The use of a resource, with what is away, also after the last activity."""
     until = max([*starts, *project.ends([*starts])]) + max(project.durations) + 1
     absent = [(one.begins, one.ends, one.units) for one in away(project, resource, until)]
@@ -109,7 +109,7 @@ def used_or_away(project: Project, starts: Sequence[int], resource: int) -> tupl
     return steps([*((one.begins, one.ends, one.units) for one in stretches(project, starts, resource)), *absent])
 
 
-def by_lags(project: Project, starts: tuple[int, ...]) -> dict[int, Window]:
+def by_lags(project: Numbers, starts: tuple[int, ...]) -> dict[int, Window]:
     """The windows that the lags alone leave."""
     last = max([0, *starts, *project.ends(starts)])
     least, most = [0] * len(starts), [last - length for length in project.durations]
@@ -135,7 +135,7 @@ def narrow(one: DatedLag, starts: tuple[int, ...], least: list[int], most: list[
                                 if one.limit(time + one.base) >= starts[one.last])
 
 
-def by_resources(project: Project, starts: tuple[int, ...], activity: int, window: Window,
+def by_resources(project: Numbers, starts: tuple[int, ...], activity: int, window: Window,
                  used: Iterable[tuple[Stretch, ...]]) -> Window:
     """What is left of a window where the others leave too little of a resource before or behind."""
     begins, ends = starts[activity], starts[activity] + project.durations[activity]

@@ -3,8 +3,8 @@ by dates, where there is a calendar."""
 from collections.abc import Collection, Sequence
 
 from ..dated import DatedLag
-from ..project import Absence, Arc, Goal
-from ..psmax import Violation
+from ..project import Away, Arc, Goal
+from ..psmax import Breach
 from .pauses import ShiftLag
 from .project_file import ProjectFile
 
@@ -139,14 +139,14 @@ class Words:
             return f"{limit} {self.opened.length(beyond)} after {name} ends" if beyond else f"{at_once} {name} ends"
         return f"{limit} {self.opened.length(lag)} after {name} starts" if lag else f"{at_once} {name} starts"
 
-    def absence(self, one: Absence) -> str:
+    def absence(self, one: Away) -> str:
         """What is away, and when."""
         what = f"{self.away(one)} away"
         if one.ends is None:
             return f"{what} from {self.time(one.begins)} on"
         return f"{what} from {self.time(one.begins)} to {self.by(one.ends)}"
 
-    def away(self, one: Absence) -> str:
+    def away(self, one: Away) -> str:
         """The resource of an absence, or so many units of it."""
         name = self.names.resource(one.resource)
         return name if one.units == self.project.capacities[one.resource] else f"{one.units} of {name}"
@@ -158,7 +158,7 @@ class Words:
                 for k, (need, units) in pairs if need > units]
         return f"{self.names.activity(activity)} needs {', '.join(told)}"
 
-    def violation(self, violation: Violation, starts: Sequence[int]) -> str:
+    def violation(self, violation: Breach, starts: Sequence[int]) -> str:
         """What must be, and what is."""
         if violation.kind == "lag":
             return self.broken(Arc(*violation.numbers), starts)

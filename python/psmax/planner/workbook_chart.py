@@ -19,7 +19,7 @@ NARROW, WIDE = 2.9, {"A": 8, "B": 40, "C": 17, "D": 17}  # widths in signs
 MINUTE = datetime.timedelta(minutes=1)
 
 
-class Scale:
+class ChartScale:
     """Which columns a stretch of time takes, and what stands above them."""
 
     def __init__(self, shown: Drawing) -> None:
@@ -68,9 +68,9 @@ def draw(book: Any, opened: ProjectFile, starts: tuple[int, ...], total: TotalFl
     if is_ours(book):
         del book[TITLE]
     critical = total.critical() if total is not None else ()
-    known = drawing.Known(critical=critical, started=[*opened.progress.started])
+    known = drawing.Details(critical=critical, started=[*opened.progress.started])
     shown = drawing.make(opened, starts, title, (), known)
-    sheet, scale = book.create_sheet(TITLE), Scale(shown)
+    sheet, scale = book.create_sheet(TITLE), ChartScale(shown)
     put(sheet.cell(1, 1), title)
     ruler(sheet, scale)
     for row, bar in enumerate(shown.bars, TOP):
@@ -83,7 +83,7 @@ def draw(book: Any, opened: ProjectFile, starts: tuple[int, ...], total: TotalFl
     sheet.print_title_rows = f"1:{HEADS}"
 
 
-def ruler(sheet: Any, scale: Scale) -> None:
+def ruler(sheet: Any, scale: ChartScale) -> None:
     for name, width in WIDE.items():
         sheet.column_dimensions[name].width = width
     heads = [*scale.heads()]
@@ -94,7 +94,7 @@ def ruler(sheet: Any, scale: Scale) -> None:
         sheet.cell(HEADS - 1, next(found)[0], month)
 
 
-def bar_row(sheet: Any, scale: Scale, row: int, bar: Bar) -> None:
+def bar_row(sheet: Any, scale: ChartScale, row: int, bar: Bar) -> None:
     shade(sheet, scale, row)
     for place, text in enumerate((bar.id, bar.name, bar.first, bar.last), 1):
         put(sheet.cell(row, place), text)
@@ -105,7 +105,7 @@ def bar_row(sheet: Any, scale: Scale, row: int, bar: Bar) -> None:
         paint(sheet, row, scale.columns(bar.begins, bar.ends), colour)
 
 
-def load_row(sheet: Any, scale: Scale, row: int, load: Load) -> None:
+def load_row(sheet: Any, scale: ChartScale, row: int, load: Load) -> None:
     """The greatest use of each column."""
     shade(sheet, scale, row)
     put(sheet.cell(row, 2), load.name)
@@ -125,7 +125,7 @@ def put(cell: Any, value: object) -> None:
         cell.data_type = "s"
 
 
-def shade(sheet: Any, scale: Scale, row: int) -> None:
+def shade(sheet: Any, scale: ChartScale, row: int) -> None:
     paint(sheet, row, [place for place, _, _, is_free in scale.heads() if is_free], FREE)
 
 

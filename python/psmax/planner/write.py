@@ -148,22 +148,21 @@ def write(opened: ProjectFile, given: str | None, sheet: Sheet, resource: str | 
 
 def replanned(opened: ProjectFile, starts: tuple[int, ...]) -> str:
     """The file of the project with these starts, where it is one of Microsoft Project."""
-    from ..answer import Schedule
+    from ..answer import Schedule, question
     from ..api import Project
     from ..formats import mspdi_text
     text = read_bytes(opened.path).decode("utf-8-sig", "replace")
     if not mspdi_sign.is_like(text):
         raise BadInput(f"{opened.path} is no project of Microsoft Project (MSPDI), into which starts could be written")
-    project = Project.read(text.encode())
-    return mspdi_text.replanned(text, Schedule(project, starts))
+    return mspdi_text.replanned(text, Schedule(question(Project.read(text.encode())), starts))
 
 
 def with_dates(opened: ProjectFile, starts: tuple[int, ...]) -> bytes:
     """The file of the project with these starts, where it is one of Primavera."""
-    from ..answer import Schedule
+    from ..answer import Schedule, question
     from ..api import Project
     from ..formats import xer_text
     data = read_bytes(opened.path)
     if not xer_sign.is_like(decoded(data)):
         raise BadInput(f"{opened.path} is no project of Primavera, into which dates could be written")
-    return xer_text.replanned(data, Schedule(Project.read(data), starts))
+    return xer_text.replanned(data, Schedule(question(Project.read(data)), starts))
