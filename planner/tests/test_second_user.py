@@ -161,7 +161,8 @@ class SecondUser(InFolder):
 
     def test_a_cluster(self) -> None:
         """The same by workers of Dask, whose port everybody reaches."""
-        if subprocess.run([self.python, "-c", "import distributed"], capture_output=True, cwd="/").returncode != 0:
+        look = "import importlib.util, sys; sys.exit(importlib.util.find_spec('distributed') is None)"
+        if subprocess.run([self.python, "-c", look], cwd="/").returncode != 0:
             self.skipTest("Dask isn't here: install python3-distributed")
         (self.folder / "cubes").mkdir(mode=0o700)
         self.give(self.folder / "cubes")

@@ -144,7 +144,7 @@ class Reading:
         self.named = told_apart(self.named)
         cuts = self.cut(crews)
         self.part()
-        for row in self.rows:
+        for row in self.rows[: MOST_ACTIVITIES + 1]:
             self.add_activity(row)
         if len(self.rows) > MOST_ACTIVITIES:
             self.faults.tell()  # before each is compared with all others
