@@ -24,7 +24,7 @@ MOST_UNPACKED = 64 << 20  # bytes of all parts
 MOST_ROWS, MOST_CELLS = 100_000, 100_000  # of a sheet; openpyxl reads so many cells in two seconds
 MOST_SIGNS, MOST_KEPT = 8_000_000, 1_000_000  # < with which tags begin, of a file, and of one that is written again
 MOST_MADE = 100_000  # cells of a file that is written again
-PIECE = 1 << 20  # bytes that are read at once
+PIECE, LONGEST = 1 << 20, 4 * 32_767  # bytes that are read at once, and of the text of a cell
 SPREAD = {"mergeCell", "hyperlink"}  # what openpyxl makes all cells of a range for
 LAST_ROW, LAST_COLUMN = 1_048_576, 16_384  # of any sheet
 MINUTE = datetime.timedelta(minutes=1)
@@ -75,8 +75,11 @@ def must_be_plain(parts: zipfile.ZipFile, called: str, most: int) -> None:
         raise BadInput(f"{called}: a file of OpenDocument; save it as {SUFFIX} or as CSV")
     if sum(part.file_size for part in parts.infolist()) > MOST_UNPACKED:
         raise BadInput(f"{called}: too long: unpacked it has more than {MOST_UNPACKED:,} bytes")
-    if sum(signs_in(parts, name) for name in parts.namelist()) > most:
+    signs = {part: signs_in(parts, part.filename) for part in parts.infolist()}
+    if sum(signs.values()) > most:
         raise BadInput(f"{called}: too long: unpacked it has more than {most:,} signs <")
+    if any(part.filename.endswith(".xml") and part.file_size > LONGEST * (count + 1) for part, count in signs.items()):
+        raise BadInput(f"{called}: a text in it is longer than a cell may have")
 
 
 def signs_in(parts: zipfile.ZipFile, name: str) -> int:

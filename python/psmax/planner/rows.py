@@ -45,8 +45,11 @@ class Row:
     cells: list[str]
 
     def cell(self, column: Column) -> str:
-        text = cell(self.cells, self.terms.columns.places.get(column))
-        return "" if column in DATED and text.upper() in ("NA", "N/A") else text
+        place = self.terms.columns.places.get(column)
+        if place is None or place >= len(self.cells):
+            return ""
+        text = self.cells[place]
+        return "" if text and column in DATED and text.upper() in ("NA", "N/A") else text
 
     def with_texts(self, texts: Mapping[Column, str]) -> "Row":
         """The same with other texts, where the table has such columns."""
