@@ -143,8 +143,10 @@ class Search:
         """Whatever ends it, what is known by then is kept."""
         with self._caught():
             self._work()
+        known, seconds = self._best.known, self.clock.elapsed()
+        self._answer = Answer(self._question, known, seconds)
         with self._caught():
-            self._answer = Answer(self._question, self._keep(self._best.known), self.clock.elapsed())
+            self._answer = Answer(self._question, self._keep(known), seconds)
         self._best.listener = lambda _: None
         if isinstance(self._fault, Failed):
             self._fault.answer = self._answer

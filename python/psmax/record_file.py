@@ -33,11 +33,10 @@ class RecordFile:
         return os.path.getsize(self.path) if os.path.exists(self.path) else 0
 
     def read(self) -> bytes:
-        return pathlib.Path(self.path).read_bytes()
+        return read_bytes(self.path, None)
 
     def begins_with(self, begin: bytes) -> bool:
-        with open(self.path, "rb") as file:
-            return file.read(len(begin)) == begin
+        return read_bytes(self.path, len(begin) - 1) == begin
 
     def chunks(self) -> Iterable[bytes]:
         with open(self.path, "rb") as file:

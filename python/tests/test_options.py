@@ -6,7 +6,7 @@ import pathlib
 import pickle
 import subprocess
 import sys
-from collections.abc import Mapping
+from collections.abc import Callable, Mapping
 from typing import Any
 from unittest import mock
 
@@ -152,6 +152,25 @@ class Records(InFolder):
         with self.temporary() as left:
             answer = made.solve(10, 1, record=False)
             self.assertEqual((answer.makespan, answer.record, left()), (6, None, []))
+
+    def test_a_full_disk(self) -> None:
+        """What is known is not lost with the file of its record."""
+        full = mock.patch("psmax.record_file.rename_whole", side_effect=psmax.Failed("cannot write x: no space left"))
+        with full, self.assertRaisesRegex(psmax.Failed, "no space left") as caught:
+            site()[0].solve(10, 1, record=self.folder / "x")
+        answer = caught.exception.answer
+        assert isinstance(answer, psmax.Answer) and answer.record is not None
+        self.assertEqual((answer.makespan, f"{answer.record.verify()}"), (6, "proved optimal 6"))
+
+    def test_a_file_that_is_gone(self) -> None:
+        answer = site()[0].solve(10, 1, record=self.folder / "x")
+        os.unlink(self.folder / "x")
+        record = answer.record
+        assert record is not None
+        calls: list[Callable[[], object]] = [record.verify, record.file.read]
+        for call in calls:
+            with self.assertRaisesRegex(psmax.Failed, "cannot read .*/x: no such file"):
+                call()
 
     def test_its_file(self) -> None:
         """The record of nobody goes; one that is pickled comes with its bytes."""
