@@ -111,7 +111,7 @@ def scripts(folder: pathlib.Path, with_tests: bool) -> Iterator[Script]:
     yield "records", records.verdicts, [psmax, "--seeded", "20", "--damaged", "1000"]
     yield "logs", logs.verdicts, [psprove, "--logs", "2000"]
     yield "logs in parts", log_parts.verdicts, [psprove, "--logs", "200"]
-    yield "trimmed logs", trims.verdicts, [psprove]
+    yield "trimmed logs", trims.verdicts, [psprove, "--logs", "500"]
     yield "records of both kinds", fuzz.verdicts, [psmax, psprove, "--records", "5000"]
     yield "planted bugs", planted.verdicts, [psmax, psprove, "--first", "4"]
     yield "hostile logs", hostile.verdicts, [psprove, "--bytes", "160000", "--seconds", "5"]
