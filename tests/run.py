@@ -14,7 +14,7 @@ A case is one line of JSON with a name, args and exit, and with those of the fol
   stdout_to     a device, or the end of a file of the folder, in place of a pipe
   stdout_limit  standard output is a file that may have so many bytes
   stderr        the whole of standard error
-  out_files     files as they are after the run
+  out_files     files as they are after the run, "no such file" where there is none
   verified      a project, and the name of a file with a record. `verify` and the checker in Python of that kind of
                 record must accept the record with the verdict that was printed
 What is wanted of stdout, stderr and files is a text or an input. VERSION stands for the version of the package. A word

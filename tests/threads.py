@@ -71,6 +71,7 @@ def numbered(program: str, folder: pathlib.Path) -> Tried:
         later = threads_of(ran)
         ran.kill()
         ran.communicate()
+        (folder / "record.part").unlink(missing_ok=True)
         yield f"{workers} workers {more}", most == later == workers + 1, f"{most} and then {later} threads"
 
 
