@@ -6,6 +6,7 @@ option that reads with each that writes, by the same name, by a symbolic link an
 be refused, and no file may have changed. Then a part of a record or of an export is there, and has to stay; so has an
 older record after a call that has none. And both go where a link leads, with the mode of the older one, which a part has
 from the beginning. The last line counts what was tried."""
+import functools
 import itertools
 import os
 import pathlib
@@ -17,6 +18,7 @@ from typing import NamedTuple
 import harness
 import judges
 import shops
+from channels import limit_files
 from harness import INPUTS, Verdicts
 
 PROJECT = (INPUTS / "two-jobs.sch").read_bytes()
@@ -141,12 +143,13 @@ def both_written(one: str, other: str, is_there: bool) -> Look:
     return look
 
 
-def record_stays(text: bytes, status: int, *words: str) -> Look:
-    """An older record stays where a call has none, and nothing lies beside it then."""
+def record_stays(text: bytes, status: int, *words: str, room: int = 1 << 20) -> Look:
+    """An older record stays where a call has none, or no room for it, and nothing lies beside it then."""
     def look(program: str, here: pathlib.Path) -> str | None:
         (here / "record").write_bytes(OLD)
         (here / "starts").write_bytes(b"0 0\n1 0\n2 0\n3 7\n")  # the jobs run at once
-        ended = harness.ended([program, "solve", *words, "--record", "record"], text, cwd=here)
+        ended = harness.ended([program, "solve", *words, "--record", "record"], text, cwd=here,
+                              preexec_fn=functools.partial(limit_files, room))
         (here / "starts").unlink()
         if ended[0] != status:
             return f"ends with {ended}"
@@ -258,6 +261,7 @@ def looks(is_psprove: bool) -> Iterator[tuple[str, Look]]:
     yield "through a link to nothing", through_a_link(False)
     if not is_psprove:
         yield "a record stays where a limit stops the search", record_stays(LONG, 3, "--nodes", "9")
+        yield "a record stays where there is no room", record_stays(PROJECT, 1, room=10)
         return
     for one, other in itertools.combinations((ANSWER, PART, "--record", "--export"), 2):
         for is_there in (True, False):
