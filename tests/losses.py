@@ -51,6 +51,7 @@ OF_PSMAX = (
 )
 OF_PSPROVE = (
     Command(("verify",), (INPUT, "--project")),
+    Command(("trim",), (INPUT, "--project")),
     Command(("solve",), (INPUT, "--start", "--until"), ("--record", PART)),
     Command(("solve", "--conflicts", "0"), ("--project", "--until"), ("--record", PART)),
     Command(("solve", "--seconds", "9"), ("--resume",), (PART,)),
