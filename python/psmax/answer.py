@@ -13,8 +13,7 @@ from .letters import short
 from .model import Absence, Activity, Lag, Parts, Resource, must_be_a
 from .project import Goal
 from .project import Numbers
-from .project_text import ProjectText
-from .record import Record
+from .record import Record, record_in
 from .whatif import ChangeKind
 
 
@@ -201,7 +200,7 @@ class Answer(Progress):
     def record(self) -> Record | None:
         """Proves the bound, or that there is no schedule; none where nobody wanted one, or psprove died or was
         killed."""
-        return None if self.known.record is None else Record(self.known.record, ProjectText(self.question.numbers))
+        return None if self.known.record is None else record_in(self.known.record, self.question.numbers)
 
     def __repr__(self) -> str:
         return f"Answer({self.known.first_line()!r}, seconds={self.seconds:.3f})"
@@ -229,7 +228,7 @@ class Answer(Progress):
     def from_dict(cls, project: Parts, told: Mapping[str, object]) -> Self:
         """The answer that `to_dict` tells, without its record. BadInput where it is none, or psmax finds that its
         starts are no schedule of the project."""
-        from .api import answer_from
+        from .starts import answer_from
         return cls(*answer_from(project, told))
 
     def rows(self, floats: "Mapping[Activity, Float] | None" = None) -> list[dict[str, object]]:

@@ -1,13 +1,18 @@
-"""Lags in calendar days: how many periods one is depends on when it begins. A project has an ordinary arc for each, of the lag
-that every date allows; `cases` keeps the rest."""
+"""Lags in calendar days, or to the next shift: how many periods one is depends on when it begins. A project has an
+ordinary arc for each, of the lag that every date allows; `cases` keeps the rest."""
+from bisect import bisect_left
 from collections.abc import Mapping, Sequence
 from dataclasses import dataclass
+from fractions import Fraction
 from functools import lru_cache
+from typing import Self
 
 from .calendars import DAY, Calendar
 from .project import Arc
 
 LONGEST = 10_000  # starts that are looked at one by one
+MOST_DAYS = 10_000  # of a lag
+ODD_DAYS = f"calendar days are a whole number, from 0 to {MOST_DAYS:,}"
 
 
 @dataclass(frozen=True)
@@ -21,6 +26,14 @@ class DatedLag:
     from_end: bool
     is_least: bool
     calendar: Calendar
+
+    @classmethod
+    def of(cls, before: int, after: int, base: int, days: int, is_least: bool, takes_time: bool, calendar: Calendar) -> Self:
+        """From the start of an activity, which may take time, to that of another one."""
+        from_end = base > 0 if takes_time else not is_least
+        least, most = everywhere(calendar, days, from_end, is_least)
+        arc = Arc(before, after, base + least) if is_least else Arc(after, before, -base - most)
+        return cls(arc, days, base, from_end, is_least, calendar)
 
     @property
     def first(self) -> int:
@@ -69,6 +82,36 @@ class DatedLag:
             return self.arc
         lags = [self.limit(start + self.base) - start for start in range(soonest, latest + 1)]
         return self.arc._replace(lag=max(self.arc.lag, min(lags) if self.is_least else -max(lags))) if lags else self.arc
+
+
+@dataclass(frozen=True)
+class ShiftLag(DatedLag):
+    """A part starts when the next shift after the one before it begins, whichever that is."""
+
+    shifts: tuple[int, ...] = ()  # when each begins; behind these the arc alone says how far the next one is
+
+    def limit(self, time: int) -> int:
+        place = bisect_left(self.shifts, time)
+        return self.shifts[place] if place < len(self.shifts) else time + self.most()
+
+    def within(self, soonest: int, latest: int) -> Arc:
+        """By the shifts with which the part before may begin."""
+        steps = [self.limit(start + self.base) - start for start in self.shifts if soonest <= start <= latest]
+        is_all = bool(steps) and latest <= self.shifts[-1]
+        return self.arc._replace(lag=max(self.arc.lag, -max(steps))) if is_all else self.arc
+
+    def most(self) -> int:
+        return -self.arc.lag - self.base
+
+    def worst(self) -> Arc:
+        return self.arc._replace(lag=-min(self.limit(begin + self.base) - begin for begin in self.shifts))
+
+    def quiet(self) -> int:
+        return max(super().quiet(), *self.shifts)
+
+
+def are_days(value: Fraction) -> bool:
+    return value.denominator == 1 and 0 <= value <= MOST_DAYS
 
 
 @lru_cache(maxsize=200_000)

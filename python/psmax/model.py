@@ -6,7 +6,8 @@ from typing import Any, TypeVar
 from .crew_hours import SPANS, Crews, Hours, with_hours
 from .errors import BadInput, UnknownName, WrongType
 from .letters import short
-from .periods import Time, time_behind, last_time, length_of, touched_by, whole
+from .dated import DatedLag, ShiftLag
+from .periods import Time, calendar_days, time_behind, last_time, length_of, touched_by, whole
 from .project import MOST_ACTIVITIES, MOST_ARCS, MOST_RESOURCES, MOST_UNITS, Arc, Away, Goal, Numbers
 from .work_time import WorkTime
 
@@ -74,6 +75,13 @@ class Lag:
     after: Point
     at_least: int | None = None
     at_most: int | None = None
+    is_in_calendar_days: bool = False  # which go on over days off
+    shifts: tuple[int, ...] = ()  # when these begin, where `after` waits for the next one, as parts of what may pause do
+
+    @property
+    def is_dated(self) -> bool:
+        """Whether its periods depend on the date."""
+        return self.is_in_calendar_days or bool(self.shifts)
 
 
 @dataclass(frozen=True)
@@ -181,16 +189,23 @@ class Parts:
     def lag(self, before: Point, after: Point, *, at_least: int | str | None = None,
             at_most: int | str | None = None) -> Lag:
         """A new lag: from one point to another at least and at most so many periods pass, each from -1,000,000 to
-        1,000,000, or a length such as '2 d'. A point is the start or the end of an activity or of the project. BadInput
-        where no limit is said, or a point is none of this project."""
+        1,000,000, or a length such as '2 d'. A point is the start or the end of an activity or of the project. From an
+        activity to the start of another one it may have calendar days, such as '3 cd', which go on over days off.
+        BadInput where no limit is said, or a point is none of this project."""
         for point in (before, after):
             must_be_a(Point, point, "a start or an end")
             self.number(point.activity)
-        limits = [None if limit is None else length_of(limit, "a lag", self.calendar, -MOST_UNITS)
-                  for limit in (at_least, at_most)]
-        if limits == [None, None]:
+        told = (at_least, at_most)
+        if told == (None, None):
             raise BadInput("a lag has a least length, a greatest one, or both")
-        made = Lag(before, after, *limits)
+        days = [calendar_days(limit, "a lag") for limit in told]
+        is_in_days = days != [None, None]
+        if is_in_days:
+            must_be_both(told, days)
+        low, high = days if is_in_days else [None if limit is None else length_of(limit, "a lag", self.calendar, -MOST_UNITS)
+                                             for limit in told]
+        made = Lag(before, after, low, high, is_in_days)
+        self.dated(made)
         must_be_room(self.lags, MOST_ARCS, "lags")
         self.lags.append(made)
         return made
@@ -286,6 +301,9 @@ class Parts:
         """Each lag as the arcs of lags from start to start that it is."""
         found = []
         for lag in self.lags:
+            if lag.is_dated:
+                found += [(one.arc, lag) for one in self.dated(lag)]
+                continue
             before, after = (self.number(point.activity) for point in (lag.before, lag.after))
             shift = lag.before.offset - lag.after.offset
             if lag.at_least is not None:
@@ -293,6 +311,22 @@ class Parts:
             if lag.at_most is not None:
                 found.append((Arc(after, before, -(lag.at_most + shift)), lag))
         return found
+
+    def dated(self, lag: Lag) -> list[DatedLag]:
+        """What each limit of a lag is on each date, where that depends on it."""
+        if not lag.is_dated:
+            return []
+        first, last, base = self.number(lag.before.activity), self.number(lag.after.activity), lag.before.offset
+        if self.calendar is None:
+            raise BadInput("a lag in calendar days needs the project's calendar")
+        if lag.before.activity not in self.activities or lag.after.activity not in self.activities or lag.after.is_end:
+            raise BadInput("a lag in calendar days goes from an activity to the start of another one")
+        calendar, takes_time = self.calendar.calendar(), lag.before.activity.duration > 0
+        if lag.shifts:
+            arc = Arc(last, first, -(lag.at_most or 0) - base)
+            return [ShiftLag(arc, 0, base, True, False, calendar, lag.shifts)]
+        return [DatedLag.of(first, last, base, days, is_least, takes_time, calendar)
+                for days, is_least in ((lag.at_least, True), (lag.at_most, False)) if days is not None]
 
     def numbers(self, minimize: str = Goal.MAKESPAN.value) -> Numbers:
         """The project as numbers, for the programs."""
@@ -306,7 +340,8 @@ class Parts:
             self._must_have_lateness()
         found = Numbers(
             (0, *(one.duration for one in self.activities), 0), tuple(rows), tuple(one.capacity for one in self.resources),
-            tuple(arcs), tuple(Away(one.resource.number, one.begins, one.ends, one.units) for one in self.absences), due, goal)
+            tuple(arcs), tuple(Away(one.resource.number, one.begins, one.ends, one.units) for one in self.absences), due, goal,
+            tuple(one for lag in self.lags for one in self.dated(lag)))
         crews = self.crews()
         return found if crews is None else with_hours(found, crews, None)
 
@@ -348,6 +383,11 @@ def must_be_new(name: str, there: Collection[str], what: str) -> None:
         raise kind(f"the name of {article} {what} is not a text that can be printed: {short(repr(name))}")
     if name in there:
         raise BadInput(f"a second {what} '{short(name)}'")
+
+
+def must_be_both(told: Sequence[object], days: Sequence[int | None]) -> None:
+    if any(limit is not None and count is None for limit, count in zip(told, days)):
+        raise BadInput("a lag counts calendar days in both of its limits, or in none; make two lags of it")
 
 
 def must_be_room(there: Sized, most: int, what: str) -> None:

@@ -3,6 +3,7 @@ import datetime
 import operator
 
 from .calendars import MINUTES
+from .dated import ODD_DAYS, are_days
 from .dates import Moment, read_moment
 from .errors import BadInput, WrongType
 from .letters import short
@@ -42,6 +43,20 @@ def length_of(value: object, what: str, work_time: WorkTime | None, least: int =
     except ValueError:
         raise BadInput(f"{what}: {short(repr(value))} is no whole number of periods, which are {period}, such as '2 d' "
                        "or '4 h'") from None
+
+
+def calendar_days(value: object, what: str) -> int | None:
+    """Of a length such as '3 cd'; none of any other one."""
+    from .planner.quantities import Unit, read_length
+    try:
+        length = read_length(value, Unit.PERIODS) if isinstance(value, str) else None
+    except ValueError:
+        length = None
+    if length is None or length.unit is not Unit.CALENDAR_DAYS:
+        return None
+    if not are_days(length.value):
+        raise BadInput(f"{what}: {short(repr(value))}: {ODD_DAYS}")
+    return int(length.value)
 
 
 def first_time(value: Time, what: str, work_time: WorkTime | None, least: int = 0) -> int:

@@ -61,25 +61,27 @@ def changes(project: Numbers, changeable: int | None = None) -> list[Change]:
     return found
 
 
-def outcomes(found: Sequence[Change], base: Known, psprove: Psprove, jobs: int) -> list[Outcome]:
-    """What becomes known of each change by one job beside others, each in its share of the time that is left. The shortest
-    schedule comes first."""
+def ask_each(projects: Sequence[Numbers], psprove: Psprove, jobs: int,
+             start: tuple[int, ...] | None = None) -> list[tuple[Known, float]]:
+    """What becomes known of each by one job beside others, in its share of the time that is left, and its seconds."""
     clock = psprove.clock
 
-    def outcome(place: int) -> Outcome:
+    def ask(place: int) -> tuple[Known, float]:
         begun, left = clock.elapsed(), clock.left()
-        limits = Limits(min(left, left * jobs / (len(found) - place)), is_recorded=False)
-        return Outcome(found[place], psprove.ask(found[place].project, limits, base.starts), clock.elapsed() - begun)
+        limits = Limits(min(left, left * jobs / (len(projects) - place)), is_recorded=False)
+        return psprove.ask(projects[place], limits, start), clock.elapsed() - begun
 
     with ThreadPoolExecutor(jobs) as pool:
-        return sorted(pool.map(outcome, range(len(found))), key=Outcome.rank)
+        return [*pool.map(ask, range(len(projects)))]
 
 
 def whatif(project: Numbers, psprove: Psprove, jobs: int, changeable: int | None = None) -> tuple[Known, list[Outcome]]:
-    """What is known of the project as it is, which gets a share of the time, and of its changes."""
+    """What is known of the project as it is, which gets a share of the time, and of its changes, of which the one with
+    the shortest schedule comes first."""
     clock = psprove.clock
     seconds, clock.seconds = clock.seconds, clock.seconds / SHARE
     base = Incumbent(clock, project)
     search(project, psprove, base, Limits(math.inf, jobs, is_recorded=False))
-    clock.seconds = seconds
-    return base.known, outcomes(changes(project, changeable), base.known, psprove, jobs)
+    clock.seconds, found = seconds, changes(project, changeable)
+    told = ask_each([one.project for one in found], psprove, jobs, base.known.starts)
+    return base.known, sorted((Outcome(one, *known) for one, known in zip(found, told)), key=Outcome.rank)

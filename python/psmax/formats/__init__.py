@@ -6,7 +6,7 @@ from dataclasses import dataclass
 
 from ..errors import BadInput, WrongType
 from ..files import LARGEST, decoded, must_be_short
-from ..letters import composed, short
+from ..letters import at_most, composed, short
 from ..model import Parts
 from . import job_shop, json_text, mspdi_sign, rcp, sch, sm, taillard, xer_sign
 
@@ -23,6 +23,7 @@ class Format:
     read: Callable[[str, Parts], None]
     write: Callable[[Parts], str]
     has_hours: bool = False  # of resources, of their own
+    has_dated_lags: bool = False  # in calendar days
 
 
 def read_mspdi(text: str, project: Parts) -> None:
@@ -47,7 +48,7 @@ def write_xer(project: Parts) -> str:
 
 # In the order in which a text is looked at.
 FORMATS = {one.name: one for one in (
-    Format("json", (json_text.SUFFIX,), json_text.is_like, json_text.read, json_text.write, True),
+    Format("json", (json_text.SUFFIX,), json_text.is_like, json_text.read, json_text.write, True, True),
     Format("mspdi", (mspdi_sign.SUFFIX,), mspdi_sign.is_like, read_mspdi, write_mspdi, True),
     Format("xer", (xer_sign.SUFFIX,), xer_sign.is_like, read_xer, write_xer, True),
     Format("sm", (sm.SUFFIX,), sm.is_like, sm.read, sm.write),
@@ -65,6 +66,19 @@ def named(name: str) -> Format:
     if name not in FORMATS:
         raise BadInput(f"format '{short(name)}': none of {', '.join(FORMATS)}")
     return FORMATS[name]
+
+
+def must_say_all(project: Parts, one: Format) -> None:
+    """A fault where a format has no place for something of a project."""
+    if project.hours and not one.has_hours:
+        raise BadInput(f"{one.name} has no hours of resources; write this project as "
+                       f"{' or '.join(one.name for one in FORMATS.values() if one.has_hours)}")
+    what = {True: "parts tied to shifts that differ", False: "lags in calendar days"}
+    faults = [f"{one.name} has no {what[bool(lag.shifts)]}: '{short(lag.before.activity.name)}' and "
+              f"'{short(lag.after.activity.name)}'"
+              for lag in project.lags if lag.shifts or lag.is_dated and not one.has_dated_lags]
+    if faults:
+        raise BadInput(*at_most(faults))
 
 
 def is_like_some(text: str) -> bool:

@@ -12,12 +12,13 @@ from ..work_time import WorkTime
 SUFFIX = ".json"
 KIND = "psmax-project 1"  # what the key `format` says
 ENDS = ("start", "end")
+PERIODS, CALENDAR_DAYS = "periods", "calendar days"  # which a lag counts
 # Of each kind of object those that it must have, and those that it may have.
 KEYS: dict[str, tuple[set[str], set[str]]] = {
     "the project": ({"format", "activities"}, {"name", "resources", "lags", "absences", "work time", "status"}),
     "a resource": ({"name", "capacity"}, {"hours"}),
     "an activity": ({"name", "duration"}, {"demands", "due"}),
-    "a lag": ({"from", "to"}, {"at least", "at most"}),
+    "a lag": ({"from", "to"}, {"at least", "at most", "unit"}),
     "an absence": ({"resource", "from"}, {"to", "units"}),
     "the work time": ({"first"}, {"period", "workdays", "holidays", "shift", "zone"}),
 }
@@ -39,6 +40,8 @@ def fill(project: Parts, value: object) -> None:
     if told["format"] != KIND:
         raise BadInput(f"the format is not '{KIND}': {short(repr(told['format']))}")
     project.name = named(told.get("name", ""), "the name of the project")
+    if "work time" in told:
+        project.calendar = work_time(checked(told["work time"], "the work time"))
     resources: dict[str, Resource] = {}
     for one in objects(told, "resources", "a resource"):
         made = project.resource(named(one["name"], "the name of a resource"), integer(one["capacity"], "a capacity"))
@@ -48,13 +51,10 @@ def fill(project: Parts, value: object) -> None:
     for one in objects(told, "activities", "an activity"):
         read_activity(one, project, resources)
     for one in objects(told, "lags", "a lag"):
-        limits = {key.replace(" ", "_"): integer(one[key], f"a lag's `{key}`") for key in ("at least", "at most") if key in one}
-        project.lag(point(one["from"], project), point(one["to"], project), **limits)
+        read_lag(one, project)
     for one in objects(told, "absences", "an absence"):
         until, units = (integer(one[key], f"an absence's `{key}`") if key in one else None for key in ("to", "units"))
         project.absence(resource(one["resource"], resources), integer(one["from"], "an absence's `from`"), until, units)
-    if "work time" in told:
-        project.calendar = work_time(checked(told["work time"], "the work time"))
     project.status = integer(told["status"], "'status'") if "status" in told else None
     must_have_hours(project)
 
@@ -119,6 +119,15 @@ def read_activity(one: Object, project: Parts, resources: Mapping[str, Resource]
     project.activity(name, integer(one["duration"], f"the duration of {short(name)}"),
                      {resource(key, resources): integer(units, f"the demand of {short(name)}") for key, units in needs.items()},
                      integer(one["due"], f"when {short(name)} is due") if "due" in one else None)
+
+
+def read_lag(one: Object, project: Parts) -> None:
+    unit = one.get("unit", PERIODS)
+    if unit not in (PERIODS, CALENDAR_DAYS):
+        raise BadInput(f"a lag's `unit` is neither '{PERIODS}' nor '{CALENDAR_DAYS}': {short(repr(unit))}")
+    limits = [integer(one[key], f"a lag's `{key}`") if key in one else None for key in ("at least", "at most")]
+    low, high = (f"{limit} cd" if limit is not None and unit == CALENDAR_DAYS else limit for limit in limits)
+    project.lag(point(one["from"], project), point(one["to"], project), at_least=low, at_most=high)
 
 
 def resource(name: object, resources: Mapping[str, Resource]) -> Resource:
@@ -214,7 +223,8 @@ def activity_object(one: Activity) -> dict[str, object]:
 def lag_object(one: Lag, project: Parts) -> dict[str, object]:
     limits = {"at least": one.at_least, "at most": one.at_most}
     return ({"from": point_list(one.before, project), "to": point_list(one.after, project)}
-            | {key: limit for key, limit in limits.items() if limit is not None})
+            | {key: limit for key, limit in limits.items() if limit is not None}
+            | ({"unit": CALENDAR_DAYS} if one.is_in_calendar_days else {}))
 
 
 def point_list(one: Point, project: Parts) -> list[str | None]:

@@ -3,15 +3,14 @@ from dataclasses import dataclass, field, replace
 
 from ..clock import Clock
 from ..errors import BadInput
+from ..history import Standing, alone, broken_alone, started_by
 from ..letters import at_most
 from ..project import MOST_ARCS, Arc, Numbers
 from ..psmax import Psmax
 from .answer import JudgedStarts, Tied, counted, feasible, tie
 from .answer_text import AnswerText, read_answer
 from .circles import circles, in_words
-from .progress import Standing
 from .project_file import ProjectFile
-from .window import stretches
 from .wording import Words
 
 
@@ -85,7 +84,8 @@ def go_on(opened: ProjectFile, given: AnswerText) -> Beginning:
 def frozen(opened: ProjectFile, tied: Tied, day: str) -> Standing:
     """What starts before the day in the old schedule has started there."""
     now = opened.time(day, "--frozen")
-    return Standing(now, {i: tied.starts[i] for i in range(1, opened.project.end) if tied.starts.get(i, now) < now})
+    inner = {i: start for i, start in tied.starts.items() if 0 < i < opened.project.end}
+    return Standing(now, started_by(inner, now))
 
 
 def from_old(opened: ProjectFile, given: AnswerText, tied: Tied, progress: Standing, day: str) -> Beginning:
@@ -114,18 +114,10 @@ def from_old(opened: ProjectFile, given: AnswerText, tied: Tied, progress: Stand
 
 
 def must_be_possible(opened: ProjectFile, called: str, started: dict[int, int]) -> None:
-    """The lags and the resources that what has started breaks by itself, whatever comes after, are told."""
-    project, words = opened.project, Words(opened)
+    """What of it breaks lags or resources by itself is told."""
+    project, of_lags = opened.project, Words(opened)
     starts = [started.get(i, 0) for i in range(project.end + 1)]
-    told = [f"has started, but {words.broken(arc, starts)}" for arc in project.rules()
-            if {arc.tail, arc.head} <= {0, *started} and starts[arc.head] < starts[arc.tail] + arc.lag]
-    durations = tuple(length if i in started else 0 for i, length in enumerate(project.durations))
-    alone = replace(project, durations=durations)
-    for resource, units in enumerate(project.capacities):
-        over = next((one for one in stretches(alone, starts, resource)
-                     if one.units > units - max(project.away(resource, time) for time in range(one.begins, one.ends))), None)
-        if over is not None:
-            time = next(time for time in range(over.begins, over.ends) if over.units > units - project.away(resource, time))
-            told.append("has started, but " + Words(replace(opened, project=alone)).overload(time, resource, starts))
+    of_resources = Words(replace(opened, project=alone(project, started)))
+    told = [(of_lags if one.kind == "lag" else of_resources).violation(one, starts) for one in broken_alone(project, started)]
     if told:
-        raise BadInput(*at_most([f"{called}: {fault}" for fault in told]))
+        raise BadInput(*at_most([f"{called}: has started, but {fault}" for fault in told]))

@@ -6,7 +6,7 @@ from contextlib import suppress
 from dataclasses import dataclass, field, replace
 from fractions import Fraction
 
-from ..dated import DatedLag, everywhere
+from ..dated import ODD_DAYS, DatedLag, are_days
 from ..dates import is_dated
 from ..letters import short
 from ..model import Group
@@ -140,17 +140,15 @@ class Lags:
         calendar, days = row.terms.calendar, length.value
         if calendar is None:
             raise row.fault(column, "calendar days need --from, the first day of the project")
-        if days < 0 or days.denominator != 1 or days > 10_000:
-            raise row.fault(column, "calendar days are a whole number, from 0 to 10,000")
+        if not are_days(days):
+            raise row.fault(column, ODD_DAYS)
         if before == 0:
             raise row.fault(column, "calendar days count from an activity; write the date that is meant")
         takes_time = self.activities.length(before) > 0
-        from_end = base > 0 if takes_time else not is_least
-        least, most = everywhere(calendar, int(days), from_end, is_least)
-        total = bounded(row, column, base + (least if is_least else most))
-        arc = Arc(before, activity, total) if is_least else Arc(activity, before, -total)
-        self.dated.append(DatedLag(arc, int(days), base, from_end, is_least, calendar))
-        return arc
+        one = DatedLag.of(before, activity, base, int(days), is_least, takes_time, calendar)
+        bounded(row, column, abs(one.arc.lag))
+        self.dated.append(one)
+        return one.arc
 
     def read_link(self, row: Row, own: Side, text: str) -> None:
         """One predecessor, such as 12, 14SS, 9FF-1 d, 12FS+50% or 12FS<3 d."""

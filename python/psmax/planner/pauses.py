@@ -1,12 +1,11 @@
 """Rows that may pause: such an activity is cut into parts. Each but the last takes a whole shift of what it needs. The
 first one begins with a shift, and each other one with the next. That is a rule of the table, which lags say exactly."""
-from bisect import bisect_left
 from collections.abc import Sequence
 from contextlib import suppress
 from dataclasses import dataclass, field
 
 from ..crew_hours import SPANS, Crews, Stretch, hour_windows
-from ..dated import DatedLag
+from ..dated import DatedLag, ShiftLag
 from ..errors import BadInput
 from ..project import Arc, Numbers
 from .columns import Column
@@ -20,32 +19,6 @@ from .rows import Row
 OF_FIRST = (Column.AFTER, Column.AT_LEAST, Column.AT_MOST, Column.PREDECESSORS, Column.NOT_BEFORE)
 OF_LAST = (Column.END_BY, Column.DUE)
 UNEQUAL = "the shifts of what it needs are not of one length; write a row for each part"
-
-
-@dataclass(frozen=True)
-class ShiftLag(DatedLag):
-    """A part starts when the next shift after the one before it begins, whichever that is."""
-
-    shifts: tuple[int, ...] = ()  # when each begins; behind these the arc alone says how far the next one is
-
-    def limit(self, time: int) -> int:
-        place = bisect_left(self.shifts, time)
-        return self.shifts[place] if place < len(self.shifts) else time + self.most()
-
-    def within(self, soonest: int, latest: int) -> Arc:
-        """By the shifts with which the part before may begin."""
-        steps = [self.limit(start + self.base) - start for start in self.shifts if soonest <= start <= latest]
-        is_all = bool(steps) and latest <= self.shifts[-1]
-        return self.arc._replace(lag=max(self.arc.lag, -max(steps))) if is_all else self.arc
-
-    def most(self) -> int:
-        return -self.arc.lag - self.base
-
-    def worst(self) -> Arc:
-        return self.arc._replace(lag=-min(self.limit(begin + self.base) - begin for begin in self.shifts))
-
-    def quiet(self) -> int:
-        return max(super().quiet(), *self.shifts)
 
 
 @dataclass

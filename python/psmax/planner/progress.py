@@ -2,12 +2,11 @@
 the status date on."""
 import re
 from collections.abc import Sequence
-from dataclasses import dataclass, field
 from fractions import Fraction
 from math import ceil
 
+from ..history import Standing
 from ..letters import short
-from ..project import Arc
 from .columns import Column
 from .faults import Faults
 from .rows import Row, is_reversed
@@ -16,34 +15,17 @@ TOLD = (Column.STARTED, Column.FINISHED, Column.REMAINING, Column.DONE)
 PERCENT = re.compile(r"([0-9]{1,3}(?:[.,][0-9]{1,3})?)\s*%?")
 
 
-@dataclass
-class Standing:
-    now: int | None  # the status date
-    started: dict[int, int] = field(default_factory=dict)  # the real start of each activity that has one
-
-    def read(self, rows: Sequence[Row], durations: list[int], faults: Faults) -> None:
-        """Takes the real starts, and changes the durations of what has started."""
-        for number, row in enumerate(rows, 1):
-            with faults.kept():
-                told = [column for column in TOLD if row.cell(column) and not is_nothing(row, column, durations[number - 1])]
-                if told and self.now is None:
-                    raise row.fault(told[0], "how far the project has come needs --status, the date at which that is so")
-                if told and Column.STARTED not in told:
-                    raise row.fault(told[0], "what has no start in the column 'started' has not started")
-                if told and self.now is not None:
-                    self.started[number], durations[number - 1] = so_far(row, self.now, durations[number - 1])
-
-    def waiting(self, durations: Sequence[int]) -> list[int]:
-        """What takes no time and was not reached by the status date. There it stands at that day, and not at the end of
-        the work before it, which is over."""
-        return [i for i, length in enumerate(durations, 1) if self.now and not length and i not in self.started]
-
-    def arcs(self, count: int) -> list[Arc]:
-        """By which what has started stays, and the rest starts from now on."""
-        if self.now is None:
-            return []
-        fixed = [arc for i, start in self.started.items() for arc in (Arc(0, i, start), Arc(i, 0, -start))]
-        return fixed + [Arc(0, i, self.now) for i in range(1, count + 1) if i not in self.started and self.now]
+def read_progress(standing: Standing, rows: Sequence[Row], durations: list[int], faults: Faults) -> None:
+    """Takes the real starts, and changes the durations of what has started."""
+    for number, row in enumerate(rows, 1):
+        with faults.kept():
+            told = [column for column in TOLD if row.cell(column) and not is_nothing(row, column, durations[number - 1])]
+            if told and standing.now is None:
+                raise row.fault(told[0], "how far the project has come needs --status, the date at which that is so")
+            if told and Column.STARTED not in told:
+                raise row.fault(told[0], "what has no start in the column 'started' has not started")
+            if told and standing.now is not None:
+                standing.started[number], durations[number - 1] = so_far(row, standing.now, durations[number - 1])
 
 
 def is_nothing(row: Row, column: Column, planned: int) -> bool:

@@ -13,6 +13,7 @@ from ..errors import BadInput
 from ..files import SPREADSHEET, decoded, is_in_code_page, read_bytes, read_text, without_blank_rows
 from ..formats import FORMATS, must_be_readable, read
 from ..formats.sch import CTRL_Z
+from ..history import Standing
 from ..model import Group, Parts
 from ..project import Goal
 from ..project import Numbers
@@ -22,7 +23,6 @@ from .columns import is_head
 from .csv_text import read_sheet
 from .answer_text import KEYS, LINE, WITH_STARTS, answer_sheet, json_object
 from .names import Names, names_in
-from .progress import Standing
 from .settings import Settings, calendar, checked, from_rows, time_of
 from .table import Table, read_table
 

@@ -7,7 +7,6 @@ from fractions import Fraction
 
 from ..dates import DAYS, WEEKDAY, read_workdays
 from ..errors import BadInput
-from ..files import read_text
 from ..letters import short
 from ..project import MOST_UNITS, Kind, Part, without
 from .above import WORDS, spelled
@@ -129,8 +128,7 @@ class Scenario:
         return self.opened.sources.get("the table of the project") or self.opened.path
 
     def sheet(self) -> Sheet:
-        path = self.path()
-        return read_sheet(path, read_text(path, self.opened.settings.sheet), is_head, count_heads)
+        return read_sheet(self.path(), self.opened.text, is_head, count_heads)
 
     def read_again(self) -> ProjectFile:
         """The table with other settings and durations."""

@@ -8,6 +8,7 @@ from ..crew_hours import Crews, with_hours
 from ..dated import DatedLag
 from ..dates import is_dated
 from ..errors import BadInput
+from ..history import Standing
 from ..letters import printable, short
 from ..model import Group
 from ..project import MOST_ACTIVITIES, MOST_ARCS, Arc, Goal, Numbers
@@ -22,7 +23,7 @@ from .faults import Faults
 from .lags import START, START_OF, WITH, Activities, Lags, Side, lengths_in, shares_in
 from .names import Names
 from .pauses import Cuts
-from .progress import Standing
+from .progress import read_progress
 from .quantities import Length, Scale, Unit, read_length, scale_of, units_of
 from .rows import Row, Terms, groups, is_summary, level, told_apart
 from .settings import HOURS_OF_WORK, Settings, calendar, checked, time_of
@@ -149,7 +150,7 @@ class Reading:
         if len(self.rows) > MOST_ACTIVITIES:
             self.faults.tell()  # before each is compared with all others
         self.planned = [*self.durations]
-        progress.read(self.rows, self.durations, self.faults)
+        read_progress(progress, self.rows, self.durations, self.faults)
         if crews is not None:
             must_fit(self.rows, self.durations, self.demands, progress.started, crews, self.faults)
         lags, due = self.lags(cuts), self.due()

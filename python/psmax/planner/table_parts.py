@@ -1,15 +1,14 @@
 """A table as a project by names, which other formats can write."""
-from collections.abc import Iterable, Mapping
+from collections.abc import Iterable, Mapping, Sequence
+from dataclasses import replace
 
 from ..api import Project
-from ..errors import BadInput
-from ..letters import at_most
+from ..dated import DatedLag, ShiftLag
 from ..model import Activity, Parts, Point
 from ..project import Arc
 from ..work_time import WorkTime
 from .project_file import ProjectFile
 from .settings import holidays
-from .wording import Words
 
 Before = Mapping[int, set[int]]  # from which activities minimum lags lead to each
 
@@ -22,12 +21,9 @@ def as_parts(opened: ProjectFile) -> Project:
 
 
 def fill_from_table(made: Parts, opened: ProjectFile) -> None:
-    """Reads it into an empty one. What has no place in one by names is told at once."""
-    numbers, table, settings, words = opened.project, opened.table, opened.settings, Words(opened)
-    faults = [f"no other format has lags in calendar days, or parts tied to shifts that differ: {words.lag(arc)}"
-              for arc in words.dated]
-    if faults or table is None:
-        raise BadInput(*at_most([f"{opened.path}: {fault}" for fault in faults]))
+    """Reads it into an empty one."""
+    numbers, table, settings = opened.project, opened.table, opened.settings
+    assert table is not None
     made.name, made.calendar = settings.title or "", work_time(opened)
     units = [made.resource(opened.names.resource(k), count) for k, count in enumerate(numbers.capacities)]
     made.hours = {units[k]: hours for k, hours in table.columns.hours().items()}
@@ -39,7 +35,7 @@ def fill_from_table(made: Parts, opened: ProjectFile) -> None:
     made.ids, made.groups = {**opened.names.ids}, [*opened.groups]
     made.status, made.started = opened.progress.now or None, {**opened.progress.started}
     soonest = {arc.head: arc.lag for arc in sorted(numbers.arcs) if arc.tail == 0}
-    add_lags(made, dict.fromkeys(arc for arc in numbers.arcs if arc.tail or soonest[arc.head] == arc.lag))
+    add_lags(made, dict.fromkeys(arc for arc in numbers.arcs if arc.tail or soonest[arc.head] == arc.lag), numbers.dated)
 
 
 def work_time(opened: ProjectFile) -> WorkTime | None:
@@ -51,7 +47,7 @@ def work_time(opened: ProjectFile) -> WorkTime | None:
                     settings.zone)
 
 
-def add_lags(made: Parts, arcs: Iterable[Arc]) -> None:
+def add_lags(made: Parts, arcs: Iterable[Arc], dated: Sequence[DatedLag]) -> None:
     """What is 0 or more is a least length. What is below 0 is a greatest one the other way round where minimum lags
     lead that way, and else a least one too. Each counts from the end of an activity where it is no shorter than
     that."""
@@ -59,7 +55,10 @@ def add_lags(made: Parts, arcs: Iterable[Arc]) -> None:
     for arc in arcs:
         if arc.lag >= 0 and arc.tail:
             before.setdefault(arc.head, set()).add(arc.tail)
-    for arc in arcs:
+    for one in dated:
+        add_dated(made, one)
+    by_date = {one.arc for one in dated}
+    for arc in (arc for arc in arcs if arc not in by_date):
         tail = made.activities[arc.tail - 1] if 0 < arc.tail <= len(made.activities) else None
         head = made.activities[arc.head - 1] if 0 < arc.head <= len(made.activities) else None
         if tail is None or head is None:
@@ -69,6 +68,15 @@ def add_lags(made: Parts, arcs: Iterable[Arc]) -> None:
         else:
             from_end = -arc.lag >= head.duration
             made.lag(Point(head, from_end), tail.start, at_most=-arc.lag - head.duration * from_end)
+
+
+def add_dated(made: Parts, one: DatedLag) -> None:
+    first, last = made.activities[one.first - 1], made.activities[one.last - 1]
+    limit: int | str = -one.arc.lag - one.base if isinstance(one, ShiftLag) else f"{one.days} cd"
+    lag = made.lag(Point(first, one.base > 0), last.start, at_least=limit if one.is_least else None,
+                   at_most=None if one.is_least else limit)
+    if isinstance(one, ShiftLag):
+        made.lags[-1] = replace(lag, shifts=one.shifts)
 
 
 def add_to_project(made: Parts, arc: Arc, tail: Activity | None, head: Activity | None) -> None:

@@ -2,7 +2,6 @@
 maximum lag loosened or dropped. psprove proves each."""
 import datetime
 from collections.abc import Sequence
-from concurrent.futures import ThreadPoolExecutor
 
 from ..calendars import DAY
 from ..call_files import lose_none
@@ -10,7 +9,7 @@ from ..clock import Clock
 from ..known import Known
 from ..project import Goal
 from ..psprove import Limits, Psprove
-from ..whatif import Change, ChangeKind, Outcome
+from ..whatif import Change, ChangeKind, Outcome, ask_each
 from ..whatif import whatif as searched
 from .csv_text import Text
 from .headline import headline
@@ -63,16 +62,7 @@ def asked(opened: ProjectFile, changes: Sequence[str], seconds: float, jobs: int
     files = [opened, *(Scenario(opened, one).project() for one in changes)]
     clock = Clock(seconds)
     clock.listen()
-
-    def known(place: int) -> tuple[Known, float]:
-        """By one job beside others, in its share of the time that is left."""
-        psprove, begun, left = Psprove(clock, opened.path), clock.elapsed(), clock.left()
-        limits = Limits(min(left, left * jobs / (len(files) - place)), is_recorded=False)
-        answer = psprove.ask(files[place].project, limits)
-        return answer, clock.elapsed() - begun
-
-    with ThreadPoolExecutor(jobs) as pool:
-        found = [*pool.map(known, range(len(files)))]
+    found = ask_each([one.project for one in files], Psprove(clock, opened.path), jobs)
     names = ["as it is", *changes]
     if sheet.out is not None:
         rows = [[Text(name), one.status(), ends(file, one.starts) or "", *("" if value is None else value for value in

@@ -2,10 +2,9 @@
 by dates, where there is a calendar."""
 from collections.abc import Collection, Sequence
 
-from ..dated import DatedLag
+from ..dated import DatedLag, ShiftLag
 from ..project import Away, Arc, Goal
 from ..psmax import Breach
-from .pauses import ShiftLag
 from .project_file import ProjectFile
 
 
