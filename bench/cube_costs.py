@@ -56,7 +56,7 @@ class Simulated(Machines):
         self.known: cube.Row = {"starts": None}
 
     def give(self, task: cube.Row) -> None:
-        row = cube.search(task | {"run": self.run, "program": self.program}, lambda: self.known, math.inf)
+        row = cube.search_cube(task | {"run": self.run, "program": self.program}, lambda: self.known, math.inf)
         self.spent += row["seconds"]
         self.longest = max(self.longest, row["seconds"])
         heapq.heappush(self.coming, (self.time + row["seconds"], task["number"], row))

@@ -47,7 +47,7 @@ def run(words: Sequence[str], env: Mapping[str, str]) -> NoReturn:
     """What `subprocess` calls in the child before a program, which never comes."""
     part()
     os.environ.update(env)
-    batch.begin, process_limits.begin = begin, begin_answer
+    batch.begin_solve, process_limits.begin = begin, begin_answer
     status = 1
     try:
         status = main(words)

@@ -5,7 +5,7 @@ import unittest
 from itertools import combinations
 from typing import Any
 
-from psmax.calendars import minutes_of
+from psmax.calendars import as_timedelta
 from psmax.planner.chart import STYLE, Chart
 from psmax.planner.drawing import Drawing
 from psmax.planner.time_axis import DateAxis
@@ -103,7 +103,7 @@ class Rulers(unittest.TestCase):
                 calendar = WorkTime(first, **days).calendar()
                 axis = DateAxis(Drawing("", (), 0, length, (), (), calendar=calendar), calendar, width)
                 self.assertEqual(["|".join(band.names[0] for band in row) for row in axis.bands()], bands)
-                told = [" ".join(f"{axis.origin + minutes_of(int(place)):%a %H:%M}" for place in (one.begins, one.ends))
+                told = [" ".join(f"{axis.origin + as_timedelta(int(place)):%a %H:%M}" for place in (one.begins, one.ends))
                         for one in axis.shades()]
                 self.assertEqual(told, shades)
                 self.assertTrue(all(one.is_free == ("workdays" in days) for one in axis.shades()))

@@ -163,14 +163,14 @@ class Answers(InFolder):
 
     def test_right(self) -> None:
         """Files come with the answer, or lie in the folder by their digests."""
-        found = answer.checked(self.row(), self.folder, 7, 5)
+        found = answer.check_answer(self.row(), self.folder, 7, 5)
         self.assertEqual(found["files"]["log"], {"sha256": hashlib.sha256(b"log").hexdigest(), "data": b"log"})
         left = {kind: {"sha256": told["sha256"], "data": None} for kind, told in self.row()["files"].items()}
         for kind, told in left.items():
             self.file(f"incoming/7-{told['sha256']}.{kind}", kind)
-        self.assertEqual(answer.checked(self.row(files=left), self.folder, 7, 5)["files"], left)
+        self.assertEqual(answer.check_answer(self.row(files=left), self.folder, 7, 5)["files"], left)
         pieces = [{"name": name, "arcs": [[1, 2, 3]]} for name in ("0", "10", "11")]
-        self.assertEqual(answer.checked(self.row(cube="open", pieces=pieces), self.folder, 7, 5)["pieces"], pieces)
+        self.assertEqual(answer.check_answer(self.row(cube="open", pieces=pieces), self.folder, 7, 5)["pieces"], pieces)
 
     def test_strange(self) -> None:
         victim = self.file("victim", VICTIM)
@@ -187,19 +187,19 @@ class Answers(InFolder):
         strange += [self.row(files=self.row()["files"] | {"log": told}) for told in files]
         for row in strange:
             with self.subTest(row), self.assertRaises(answer.Strange):
-                answer.checked(row, self.folder, 7, 5)
+                answer.check_answer(row, self.folder, 7, 5)
         self.assertEqual(victim.read_text(), VICTIM)
 
     def test_a_file_that_is_too_long(self) -> None:
         with mock.patch("psmax.cubes.answer.MOST_BYTES", 2), self.assertRaisesRegex(answer.Strange, "too long"):
-            answer.checked(self.row(), self.folder, 7, 5)
+            answer.check_answer(self.row(), self.folder, 7, 5)
 
     def test_links(self) -> None:
         """A file that was left is no link."""
         told = self.row()["files"]["log"] | {"data": None}
         (self.folder / "incoming" / f"7-{told['sha256']}.log").symlink_to(self.file("there", "log"))
         with self.assertRaises(answer.Strange):
-            answer.checked(self.row(files=self.row()["files"] | {"log": told}), self.folder, 7, 5)
+            answer.check_answer(self.row(files=self.row()["files"] | {"log": told}), self.folder, 7, 5)
 
 
 class Sums(InFolder):

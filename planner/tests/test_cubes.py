@@ -289,7 +289,7 @@ class Search(InCubes):
         files = {"project": FOUR.encode(), "path": b"1 2 3\n", "import": b"", "start": b""}
         packed = {name: zlib.compress(data) for name, data in files.items()}
         limits = {"conflicts": 10**6, "pieces": 4, "below": 10}
-        return cube.search({"program": self.psprove(seconds), "run": "none", "folder": "/", **limits, **packed}, ask, 0.05)
+        return cube.search_cube({"program": self.psprove(seconds), "run": "none", "folder": "/", **limits, **packed}, ask, 0.05)
 
     def test_shorter_schedules(self) -> None:
         """They come while it runs. Without the folder of the driver its files come back by themselves."""

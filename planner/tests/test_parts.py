@@ -7,7 +7,7 @@ from typing import Any
 from unittest import mock
 
 from psmax.cubes import cube, part
-from psmax.cubes.claim import claim_of
+from psmax.cubes.parts import claim_of
 from psmax.cubes.machines import CHECK, Coming, Machines, Processes, Work
 
 from .helpers import PROJECTS, PSMAX, PSPROVE, TOP, TWO_JOBS, InFolder, Ran, plan
@@ -91,18 +91,18 @@ class InParts(InCubes):
 
     def test_a_machine_that_has_no_such_file(self) -> None:
         """It gets the record with the task."""
-        real = part.record_of
+        real = part.open_record
         with mock.patch.object(part, "record_of", lambda task: real(task if "record" in task else {"path": "/no/file"})):
             self.assertEqual(self.verify(":", "--jobs", "2").returncode, 0)
 
     def test_a_record_that_changes(self) -> None:
-        with mock.patch("psmax.cubes.parts.digest_of", return_value="0" * 64):
+        with mock.patch("psmax.cubes.parts.sha256_of", return_value="0" * 64):
             self.refused(self.verify(":", "--jobs", "2"), 1, f"plan: {self.record} was changed while it was checked\n")
 
     def test_nobody_waits(self) -> None:
         task = {"path": f"{self.record}", "project": zlib.compress(b""), "number": 1, "count": 2, "program": self.psprove()}
         with self.assertRaisesRegex(RuntimeError, "nobody waits"):
-            part.check(task, lambda: None, cube.GLANCE)
+            part.check_part(task, lambda: None, cube.GLANCE)
 
     def test_words(self) -> None:
         """A folder of cubes has a record, and alone its project too. A record of psmax has no parts."""

@@ -32,7 +32,7 @@ from .search_options import (
     LOG, Frozen, Path, SearchOptions, checked_jobs, checked_limits, clock_of, enough, must_be_function,
     must_know_dates, path_of)
 from .starts import (
-    CALLED, check_starts, feasible_starts, must_be_possible, pairs_of, same_named, starts_in, with_frozen)
+    CALLED, check_starts, feasible_starts, must_keep_started, pairs_of, same_named, starts_in_file, with_frozen)
 from .total import TotalFloat
 
 SECONDS = 60.0
@@ -75,12 +75,12 @@ class Project(Parts):
     def from_dict(cls, told: Mapping[str, object]) -> Self:
         """The project that `to_dict` tells: the object of the format json. BadInput where it is none."""
         made = cls()
-        json_text.fill(made, told)
+        json_text.fill_from_object(made, told)
         return made
 
     def to_dict(self) -> dict[str, object]:
         """The project as the object of the format json."""
-        formats.must_say_all(self, formats.named("json"))
+        formats.must_say_all(self, formats.format_named("json"))
         return json_text.to_dict(self)
 
     def copy(self) -> Self:
@@ -89,14 +89,14 @@ class Project(Parts):
 
     def text(self, format: str) -> str:
         """The project as a text of this format. BadInput where the format can't say all of it."""
-        one = formats.named(format)
+        one = formats.format_named(format)
         formats.must_say_all(self, one)
         return one.write(self)
 
     def write(self, path: Path, format: str | None = None) -> None:
         """Writes the text into a file, whole or not at all; its suffix says the format, or else `format` does."""
         name = named_path(path)
-        write_whole(name, self.text(format or formats.of_file(name)).encode())
+        write_whole(name, self.text(format or formats.format_of_file(name)).encode())
 
     def _repr_html_(self) -> str:
         """Its activities, for a notebook."""
@@ -166,7 +166,7 @@ class Project(Parts):
         """Starts in the file of an answer, of plan or of a program: by names, or by numbers where it has none, and by
         dates or periods. What is no activity of this project any more is left out. BadInput where it is no answer, or
         has no starts."""
-        return starts_in(self, named_path(path))
+        return starts_in_file(self, named_path(path))
 
     def replan(self, before: Frozen, now: Time, seconds: float = SECONDS, jobs: int | None = None, *,
                started: Mapping[Activity, Time] | Mapping[str, Time] | None = None, record: bool | Path | None = None,
@@ -177,7 +177,7 @@ class Project(Parts):
         lags or resources by itself."""
         time, old = first_time(now, "now", self.calendar), same_named(self, before)
         frozen = started_by(old, time) if started is None else dict(pairs_of(self, started))
-        must_be_possible(self, frozen)
+        must_keep_started(self, frozen)
         hint = {one: start for one, start in old.items() if one not in frozen}
         return self.solve(seconds, jobs, hint=hint, frozen=frozen, now=time, record=record, minimize=minimize)
 
@@ -209,7 +209,7 @@ class Project(Parts):
         psprove. The shortest schedule comes first."""
         clock, numbers = clock_of(seconds), self.numbers(minimize)
         with clock.interrupted():
-            _, outcomes = whatif.whatif(numbers, Psprove(clock, CALLED), checked_jobs(jobs))
+            _, outcomes = whatif.try_changes(numbers, Psprove(clock, CALLED), checked_jobs(jobs))
         return [Changed(one.change.kind, part_of(self, one.change.part.kind, one.change.part.number),
                         Status(one.known.status()), one.known.value, one.known.bound, one.seconds) for one in outcomes]
 

@@ -5,7 +5,7 @@ from collections.abc import Sequence
 from fractions import Fraction
 from math import gcd
 
-from .date_style import DateStyle, weekday
+from .dates import DateStyle, weekday
 
 MINUTES = {"minutes": 1, "hours": 60, "days": 24 * 60, "weeks": 7 * 24 * 60}  # of each kind of period
 DAY = datetime.timedelta(days=1)
@@ -236,18 +236,18 @@ class Shifts(Calendar):
     def __init__(self, first: datetime.datetime, minutes: int, days: Days, shift: Sequence[tuple[int, int]]) -> None:
         self.first, self.minutes, self.days, self.shift = first, minutes, days, shift
         self.slots = [begins for part in shift for begins in range(part[0], part[1], minutes)]
-        early = [slot for slot in self.slots if at_midnight(days.day(0)) + minutes_of(slot) < first]
+        early = [slot for slot in self.slots if at_midnight(days.day(0)) + as_timedelta(slot) < first]
         self.skipped = len(early)  # periods of the first day that are over when the project begins
 
     def slot(self, time: int) -> datetime.datetime:
         day, slot = divmod(time + self.skipped, len(self.slots))
-        return at_midnight(self.days.day(day)) + minutes_of(self.slots[slot])
+        return at_midnight(self.days.day(day)) + as_timedelta(self.slots[slot])
 
     def begins(self, time: int) -> datetime.datetime:
         return self.slot(time)
 
     def ended(self, time: int) -> datetime.datetime:
-        return self.slot(time - 1) + minutes_of(self.minutes)
+        return self.slot(time - 1) + as_timedelta(self.minutes)
 
     def from_on(self, moment: datetime.datetime) -> int:
         return max(0, self.passed(moment, 0))
@@ -278,7 +278,7 @@ class Shifts(Calendar):
         return Shifts(self.first, self.minutes, days, self.shift)
 
     def periods_a_day(self) -> Fraction | None:
-        is_all_day = len(self.slots) * minutes_of(self.minutes) == DAY
+        is_all_day = len(self.slots) * as_timedelta(self.minutes) == DAY
         return Fraction(len(self.slots)) if is_all_day and self.days.periods_a_day() else None
 
     def round(self) -> int:
@@ -295,5 +295,5 @@ def at_midnight(day: datetime.date) -> datetime.datetime:
     return datetime.datetime(day.year, day.month, day.day)
 
 
-def minutes_of(count: int) -> datetime.timedelta:
+def as_timedelta(count: int) -> datetime.timedelta:
     return datetime.timedelta(minutes=count)

@@ -4,7 +4,7 @@ import os
 from collections.abc import Iterable, Mapping
 
 from .errors import BadInput
-from .files import DASH, MARK, STANDARD_INPUT, must_be_writable, read_bytes
+from .files import DASH, MARK, STANDARD_INPUT, must_be_writable, read_there
 
 Identity = tuple[int, int, str]  # a file's device and number; of one that isn't there those of its folder, and its name
 
@@ -67,7 +67,7 @@ def lies_in(path: str, folder: str) -> bool:
 def must_be_like(path: str | None, begin: bytes, what: str) -> None:
     """Tells before anything is done that a file which would be replaced is none of its kind, but a plan, for
     example."""
-    there = read_bytes(path) if path is not None and os.path.isfile(path) else b""
+    there = read_there(path)
     if there.strip() and not there.removeprefix(MARK).startswith(begin):
         raise BadInput(f"{path} is there, and no {what}, and would be lost; name another file")
 

@@ -62,22 +62,22 @@ def read_cases(data: bytes, project: Numbers) -> tuple[list[Leaf], tuple[int, ..
             waiting += [(*arcs, *more) for more in reversed(cases)]
         else:
             end, ceiling = place + natural(node["bytes"]), node["ceiling"]
-            leaves.append(Leaf(arcs, None if ceiling is None else whole(ceiling), records[place:end]))
+            leaves.append(Leaf(arcs, None if ceiling is None else read_whole(ceiling), records[place:end]))
             place = end
-    starts = None if told["starts"] is None else tuple(map(whole, told["starts"]))
+    starts = None if told["starts"] is None else tuple(map(read_whole, told["starts"]))
     if waiting or place != len(records) or not data.startswith(BEGIN) or len(starts or project.durations) != project.end + 1:
         raise ValueError
     return leaves, starts
 
 
-def whole(number: object) -> int:
+def read_whole(number: object) -> int:
     if type(number) is not int or abs(number) > MOST_UNITS:
         raise ValueError
     return number
 
 
 def natural(number: object) -> int:
-    found = whole(number)
+    found = read_whole(number)
     if found < 0:
         raise ValueError
     return found

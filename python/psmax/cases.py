@@ -10,7 +10,7 @@ from typing import TYPE_CHECKING
 from .dated import DatedLag, broken
 from .errors import TimeUp
 from .known import Known
-from .project import MOST_ARCS, MOST_UNITS, Arc, Numbers, with_order, least_starts, within
+from .project import MOST_ARCS, MOST_UNITS, Arc, Numbers, latest_starts, least_starts, with_order, within
 from .project_text import ProjectText
 from .record_file import RecordFile
 
@@ -104,18 +104,6 @@ def soonest_starts(project: Numbers, dated: Sequence[DatedLag]) -> list[int]:
         if soonest == before:
             break
     return soonest
-
-
-def latest_starts(project: Numbers) -> list[float]:
-    """No activity starts later, by the arcs; infinite where none of them says so."""
-    latest: list[float] = [0, *[math.inf] * project.end]
-    for _ in latest:
-        before = [*latest]
-        for tail, head, lag in reversed(project.rules()):
-            latest[tail] = min(latest[tail], latest[head] - lag)
-        if latest == before:
-            break
-    return latest
 
 
 class CaseSearch:

@@ -6,7 +6,7 @@ import threading
 import time
 from collections.abc import Callable, Iterator
 from contextlib import contextmanager
-from typing import NoReturn
+from typing import NoReturn, Self
 
 from .letters import printable
 
@@ -50,10 +50,11 @@ class Clock:
         self.is_in_hurry = True
         self.stop()
 
-    def listen(self) -> None:
+    def listen(self) -> Self:
         """From now on what would end the run stops this clock, and interrupts nothing."""
         for number in heard():
             signal.signal(number, self.stop)
+        return self
 
     @contextmanager
     def interrupted(self) -> Iterator[None]:

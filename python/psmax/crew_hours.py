@@ -4,8 +4,8 @@ import re
 from collections.abc import Collection, Iterator, Mapping, Sequence
 from dataclasses import dataclass, replace
 
-from .calendars import DAY, Calendar, Days, Shifts, at_midnight, minutes_of
-from .dates import MIDNIGHT, SPAN, read_workdays
+from .calendars import DAY, Calendar, Days, Shifts, at_midnight, as_timedelta
+from .dates import MIDNIGHT, SHORT_DAYS, SPAN, read_workdays, span_text
 from .errors import BadInput
 from .letters import short
 from .project import MOST_ACTIVITIES, Numbers, Off
@@ -17,7 +17,6 @@ WORDS = {word: hours for hours, words in (
 ) for word in words.split()}
 MONDAY = datetime.datetime(2001, 1, 1)  # of some week
 WEEK = 7
-NAMES = ("mon", "tue", "wed", "thu", "fri", "sat", "sun")
 SPANS = [56 * 2**step for step in range(7)]  # days in which all may have ended
 SPARE_DAYS, SPARE_SHARE = 7, 4  # a horizon is a week behind a schedule, or a quarter of it, as that may break lags
 EXAMPLE = "not hours such as 06:00-18:00, nights, or Mo-Fr 06:00-18:00"
@@ -42,7 +41,7 @@ class Hours:
         for count in range((last - first).days + 1):
             day = at_midnight(first) + count * DAY
             if self.days is None or day.weekday() in self.days:
-                yield from ((day + minutes_of(begins), day + minutes_of(ends)) for begins, ends in self.spans)
+                yield from ((day + as_timedelta(begins), day + as_timedelta(ends)) for begins, ends in self.spans)
 
 
 def read_hours(text: str) -> Hours:
@@ -80,7 +79,7 @@ def is_within(hours: Hours, calendar: Calendar) -> bool:
         for day in (at_midnight(begins.date()) + count * DAY for count in range(2)):
             start, end = max(begins, day), min(ends, day + DAY)
             is_free = hours.days is not None and day.weekday() not in days.workdays
-            if start < end and (is_free or start < day + minutes_of(first) or day + minutes_of(last) < end):
+            if start < end and (is_free or start < day + as_timedelta(first) or day + as_timedelta(last) < end):
                 return False
     return True
 
@@ -161,16 +160,9 @@ def of_week(week: Sequence[Sequence[Span]]) -> Hours | None:
     for spans in (week, over_midnight(week)):
         days = [day for day, own in enumerate(spans) if own]
         if len({tuple(spans[day]) for day in days}) == 1:
-            parts = [f"{clock_text(begins)}-{clock_text(ends)}" for begins, ends in spans[days[0]]]
-            text = f"{','.join(NAMES[day] for day in days)} {','.join(parts)}"
+            text = f"{','.join(SHORT_DAYS[day] for day in days)} {','.join(map(span_text, spans[days[0]]))}"
             return Hours(text, frozenset(days), tuple(spans[days[0]]))
     return None
-
-
-def clock_text(minutes: int) -> str:
-    """A time of the day, which ends at 24:00."""
-    rest = minutes if minutes <= MIDNIGHT else minutes - MIDNIGHT
-    return f"{rest // 60:02}:{rest % 60:02}"
 
 
 def over_midnight(week: Sequence[Sequence[Span]]) -> list[list[Span]]:

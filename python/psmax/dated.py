@@ -48,7 +48,7 @@ class DatedLag:
     def limit(self, time: int) -> int:
         """The first start that is late enough where it counts from this time, or the last one that is soon enough. It never
         falls as the time rises."""
-        return limit(self.calendar, self.days, self.from_end, self.is_least, time)
+        return limit_at(self.calendar, self.days, self.from_end, self.is_least, time)
 
     def slack(self, starts: Sequence[int] | Mapping[int, int]) -> int:
         """By how much it is kept; below 0 where it is not."""
@@ -115,7 +115,7 @@ def are_days(value: Fraction) -> bool:
 
 
 @lru_cache(maxsize=200_000)
-def limit(calendar: Calendar, days: int, from_end: bool, is_least: bool, time: int) -> int:
+def limit_at(calendar: Calendar, days: int, from_end: bool, is_least: bool, time: int) -> int:
     begin = calendar.ended(time) if from_end and time > 0 else calendar.begins(time)
     first = calendar.from_on(begin + days * DAY)
     return first if is_least or calendar.begins(first) <= begin + days * DAY else first - 1
@@ -126,10 +126,10 @@ def everywhere(calendar: Calendar, days: int, from_end: bool, is_least: bool) ->
     """The least and the greatest number of periods that such a lag can be, wherever it begins. Far from holidays one week is
     like another. Where clocks change a day has more periods or fewer."""
     plain, least = calendar.without_holidays(), int(from_end)
-    lags = {limit(plain, days, from_end, is_least, time) - time for time in range(least, plain.round() + 1)}
+    lags = {limit_at(plain, days, from_end, is_least, time) - time for time in range(least, plain.round() + 1)}
     for holiday in calendar.holidays_of():
         first, last = calendar.from_on(holiday - (days + 1) * DAY), calendar.from_on(holiday + DAY)
-        lags |= {limit(calendar, days, from_end, is_least, time) - time for time in range(max(least, first), last + 1)}
+        lags |= {limit_at(calendar, days, from_end, is_least, time) - time for time in range(max(least, first), last + 1)}
     return min(lags) - calendar.changes(), max(lags) + calendar.changes()
 
 

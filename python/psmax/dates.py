@@ -1,6 +1,8 @@
-"""Dates, days of the week and hours of work as people write them."""
+"""Dates, days of the week and hours of work, as people write them and as they are written for them."""
 import datetime
 import re
+from collections import Counter
+from collections.abc import Collection, Iterable, Sequence
 from dataclasses import dataclass
 from functools import lru_cache
 
@@ -15,6 +17,7 @@ DAYS = (  # of the week, in English and in German
     ("sat", "saturday", "sa", "samstag", "sonnabend"),
     ("sun", "sunday", "su", "so", "sonntag"),
 )
+SHORT_DAYS = tuple(names[0] for names in DAYS)
 WEEKDAY = {name: number for number, names in enumerate(DAYS) for name in names}
 ORDERS = ("dmy", "mdy")  # of day, month and year, where slashes stand between them
 CLOCK = r"(?:(?:T|\s+)(\d{1,2}):(\d\d)(?::00(?:\.0*)?)?)?"
@@ -28,6 +31,10 @@ LONGEST = 100  # signs of a date with blanks around it
 MIDNIGHT = 24 * 60
 FAR_YEARS = 20  # from the project's start; a date that is farther is a slip
 FAR = datetime.timedelta(days=366 * FAR_YEARS)
+FORMS = {"iso": "{0.year:04}-{0.month:02}-{0.day:02}", "dots": "{0.day:02}.{0.month:02}.{0.year:04}",
+         "dmy": "{0.day:02}/{0.month:02}/{0.year:04}", "mdy": "{0.month:02}/{0.day:02}/{0.year:04}"}
+DECIMAL = re.compile(r"[-+]?\d{0,9},\d{1,2}\s*[^\W\d_]*[.?]*")  # with a comma, and perhaps with a unit
+MARKS = {"iso": "%m-%d", "dots": "%d.%m.", "dmy": "%d/%m", "mdy": "%m/%d"}
 
 
 @dataclass(frozen=True)
@@ -88,6 +95,28 @@ def day_and_month(first: int, second: int, order: str | None) -> tuple[int, int]
     return (second, first) if is_month_first else (first, second)
 
 
+def day_ranges(days: Collection[int], names: Sequence[str]) -> str:
+    """Days of the week by these names, such as mon-wed,fri, where some stand one after another."""
+    if len(days) == len(names):
+        return f"{names[0]}-{names[-1]}"
+    found = []
+    for first in sorted(day for day in days if (day - 1) % 7 not in days):
+        last = first + next(more for more in range(7) if (first + more + 1) % 7 not in days)
+        found.append(names[first] if last == first else f"{names[first]}-{names[last % 7]}")
+    return ",".join(found)
+
+
+def clock_text(minutes: int) -> str:
+    """A time of the day, which ends at 24:00, or of the next one."""
+    rest = minutes if minutes <= MIDNIGHT else minutes - MIDNIGHT
+    return f"{rest // 60:02}:{rest % 60:02}"
+
+
+def span_text(span: tuple[int, int]) -> str:
+    """Hours from one minute of the day until another."""
+    return f"{clock_text(span[0])}-{clock_text(span[1])}"
+
+
 def read_workdays(text: str) -> frozenset[int]:
     """The days of the week in a text such as mon-fri, Mo-Fr or mon,wed-fri."""
     found: set[int] = set()
@@ -112,3 +141,46 @@ def read_shift(text: str) -> tuple[tuple[int, int], ...]:
             raise ValueError(f"shift {short(text)}: each part begins after the one before")
         parts.append((begins, ends))
     return tuple(parts)
+
+
+@dataclass(frozen=True)
+class DateStyle:
+    """How dates are written: as the planner's table writes them."""
+
+    form: str = "iso"  # one of `FORMS`
+    year: int | None = None  # of the project's start, which short dates with dots leave out
+
+    def day(self, day: datetime.date) -> str:
+        return FORMS[self.form].format(day)
+
+    def moment(self, at: datetime.datetime) -> str:
+        return f"{self.day(at)} {at:%H:%M}"
+
+    def short(self, day: datetime.date) -> str:
+        """Without the year where a table with dots would leave it out."""
+        return f"{day:%d.%m.}" if self.form == "dots" and day.year == self.year else self.day(day)
+
+    def mark(self, day: datetime.date) -> str:
+        """In few letters, for a chart."""
+        return f"{day:{MARKS[self.form]}}"
+
+
+def decimal_sign(texts: Iterable[str]) -> str:
+    """A comma where some number has one, such as 1,5 d; else a point, which stands in codes such as 1.2 too."""
+    return "," if any(DECIMAL.fullmatch(text.strip()) for text in texts) else "."
+
+
+def weekday(day: datetime.date) -> str:
+    """The day of the week in three letters."""
+    return DAYS[day.weekday()][0].capitalize()
+
+
+def style_of(texts: Iterable[str], order: str | None, first: datetime.date | None) -> DateStyle:
+    """By most of the texts that are dates. Dates with slashes need the order of day and month, and are else written as
+    2026-03-02, which nobody misreads."""
+    found: Counter[str] = Counter()
+    for text in texts:
+        plain = NAME.sub("", text.strip(), count=1)
+        found.update(form for form, pattern in (("iso", ISO), ("dots", DOTS), ("slashes", SLASHES)) if pattern.fullmatch(plain))
+    form = found.most_common(1)[0][0] if found else "iso"
+    return DateStyle((order or "iso") if form == "slashes" else form, None if first is None else first.year)

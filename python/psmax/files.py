@@ -1,6 +1,7 @@
 """Files: read with a clear fault, written whole or not at all, and looked at for changes."""
 import codecs
 import errno
+import hashlib
 import os
 import pathlib
 import stat
@@ -37,6 +38,20 @@ def read_bytes(path: str, most: int | None = LARGEST) -> bytes:
         with open(path, "rb") as file:
             return file.read(-1 if most is None else most + 1)
     except (OSError, ValueError) as fault:
+        raise Failed(f"cannot read {path}: {reason(fault)}") from None
+
+
+def read_there(path: str | None) -> bytes:
+    """What a file holds that would be replaced; nothing where none is there."""
+    return read_bytes(path) if path is not None and os.path.isfile(path) else b""
+
+
+def sha256_of(path: str) -> str:
+    """Of all that the file holds."""
+    try:
+        with open(path, "rb") as file:
+            return hashlib.file_digest(file, "sha256").hexdigest()
+    except OSError as fault:
         raise Failed(f"cannot read {path}: {reason(fault)}") from None
 
 

@@ -59,7 +59,7 @@ def told_by(work: Callable[..., str], *given: object) -> list[str]:
 def keep_limits() -> None:
     """From now on."""
     signal.alarm(PATIENCE)
-    for what, most in ((resource.RLIMIT_CPU, seconds() + SECONDS), (resource.RLIMIT_AS, memory() + MEMORY),
+    for what, most in ((resource.RLIMIT_CPU, processor_seconds() + SECONDS), (resource.RLIMIT_AS, memory() + MEMORY),
                        (resource.RLIMIT_CORE, 0)):
         set_limit(what, most)
 
@@ -70,7 +70,7 @@ def set_limit(what: int, most: int) -> None:
     resource.setrlimit(what, (most if hard == resource.RLIM_INFINITY else min(most, hard), hard))
 
 
-def seconds() -> int:
+def processor_seconds() -> int:
     """Whole ones of a processor that this process has taken."""
     return int(sum(os.times()[:2]))
 

@@ -1,6 +1,7 @@
 """A project as numbers: activities and resources, what of these is away when, and what is minimized."""
+import math
 from collections import deque
-from collections.abc import Collection, Mapping, Sequence
+from collections.abc import Callable, Collection, Iterable, Mapping, Sequence
 from dataclasses import dataclass, field, replace
 from enum import Enum, StrEnum
 from itertools import combinations
@@ -241,12 +242,34 @@ def least_starts(project: Numbers) -> list[int] | None:
     return [int(start) for start in least]
 
 
+def latest_starts(project: Numbers) -> list[float]:
+    """No activity starts later, by the lags; infinite where none of them says so."""
+    rules, latest = project.rules()[::-1], [0.0, *[math.inf] * project.end]
+    for _ in latest:
+        before = [*latest]
+        for tail, head, lag in rules:
+            latest[tail] = min(latest[tail], latest[head] - lag)
+        if latest == before:
+            break
+    return latest
+
+
 def by_tail(project: Numbers) -> list[list[Arc]]:
     """The rules that leave each activity."""
     found: list[list[Arc]] = [[] for _ in project.durations]
     for arc in project.rules():
         found[arc.tail].append(arc)
     return found
+
+
+def leads(above: Callable[[int], Iterable[int]], first: int, last: int) -> bool:
+    """Whether one activity comes before another, by those that are right above each."""
+    seen, open_ones = {last}, [last]
+    while open_ones and first not in seen:
+        new = {*above(open_ones.pop())} - seen
+        seen |= new
+        open_ones += new
+    return first in seen
 
 
 def least_end(project: Numbers, starts: Mapping[int, int]) -> int:

@@ -9,7 +9,7 @@ from contextlib import contextmanager
 from functools import partial
 from typing import TYPE_CHECKING, Any, NamedTuple
 
-from .date_style import decimal_sign
+from .dates import decimal_sign
 from .errors import BadInput, Failed
 from .extras import extra
 from .files import LARGEST
@@ -146,7 +146,7 @@ def csv_of(data: bytes, called: str, name: str | None) -> str:
     comma = decimal_sign(texts) == ","
     text = io.StringIO()
     writer = csv.writer(text, lineterminator="\n")
-    writer.writerows([number_text(one, comma) for one in row] for row in without_blank(rows))
+    writer.writerows([text_of_number(one, comma) for one in row] for row in without_blank(rows))
     return text.getvalue()
 
 
@@ -167,7 +167,7 @@ def cells_of(data: bytes, called: str, name: str | None) -> Iterator[list[object
         if number > MOST_ROWS or count > MOST_CELLS:
             raise BadInput(f"{called}: a table has at most {MOST_ROWS:,} rows and {MOST_CELLS:,} cells")
         faults += [f"{called}: cell {one.coordinate}: {short(str(one.value))}" for one in row if one.data_type == "e"]
-        yield [shown(one) for one in row]
+        yield [cell_shown(one) for one in row]
     faults += [f"{called}: cell {one}: a formula without its value; open and save the file in a spreadsheet"
                for one in unvalued(reader.archive, path)]
     if faults:
@@ -186,7 +186,7 @@ def unvalued(parts: zipfile.ZipFile, name: str) -> Iterator[str]:
                 one.clear()
 
 
-def shown(cell: Any) -> object:
+def cell_shown(cell: Any) -> object:
     """A text as the sheet shows it, or a number, whose decimal sign is that of the sheet's texts."""
     value, form = cell.value, getattr(cell, "number_format", "") or ""
     if isinstance(value, bool):
@@ -221,7 +221,7 @@ def moment_text(value: datetime.datetime, form: str) -> str:
     return day if not has_hour else f"{day} {value:%H:%M:%S}".removesuffix(":00")
 
 
-def number_text(cell: object, comma: bool) -> str:
+def text_of_number(cell: object, comma: bool) -> str:
     if not isinstance(cell, Number):
         return f"{cell}"
     text = f"{cell.value:.10g} {cell.unit}".rstrip()

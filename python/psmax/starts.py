@@ -40,7 +40,7 @@ def same_named(project: Parts, before: Frozen) -> dict[Activity, int]:
     return dict(pairs_of(project, before))
 
 
-def starts_in(project: Parts, path: str) -> dict[Activity, int]:
+def starts_in_file(project: Parts, path: str) -> dict[Activity, int]:
     """Of the activities that an answer has, as plan reads it."""
     from .look import as_file
     from .planner.answer import counted, tie
@@ -50,7 +50,7 @@ def starts_in(project: Parts, path: str) -> dict[Activity, int]:
     return {one: found[one.number] for one in project if one.number in found}
 
 
-def must_be_possible(project: Parts, started: Mapping[Activity, int]) -> None:
+def must_keep_started(project: Parts, started: Mapping[Activity, int]) -> None:
     asked, fixed = question(project), {one.number: start for one, start in started.items()}
     starts = tuple(fixed.get(i, 0) for i in range(asked.numbers.end + 1))
     of_resources = replace(asked, numbers=alone(asked.numbers, fixed))

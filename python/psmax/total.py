@@ -1,6 +1,5 @@
 """Total float: how much later than in a schedule an activity can start in some schedule that is no longer. psprove proves the
 latest start: it finds a schedule with that start, and proves that there is none with a later one."""
-import math
 import os
 import threading
 from collections.abc import Callable, Collection
@@ -9,7 +8,7 @@ from dataclasses import dataclass, field, replace
 
 from .clock import tell
 from .files import write_whole
-from .project import Arc, Goal, Numbers
+from .project import Arc, Goal, Numbers, latest_starts
 from .project_text import ProjectText
 from .record_file import RecordFile
 from .psmax import starts_text
@@ -77,14 +76,8 @@ class TotalFloat:
 
     def by_lags(self) -> dict[int, int]:
         """The latest starts that the lags alone leave."""
-        project = self.limited()
-        rules, before = project.rules()[::-1], [math.inf]
-        latest = [0, *[math.inf] * project.end]
-        while latest != before:
-            before = [*latest]
-            for tail, head, lag in rules:
-                latest[tail] = min(latest[tail], latest[head] - lag)
-        return {activity: int(latest[activity]) for activity in range(1, project.end)}
+        latest = latest_starts(self.limited())
+        return {activity: int(latest[activity]) for activity in range(1, self.project.end)}
 
     def run(self, jobs: int) -> None:
         """In rounds, each with more seconds for an answer, so that what is hard doesn't keep the rest waiting."""

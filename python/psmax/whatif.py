@@ -75,7 +75,7 @@ def ask_each(projects: Sequence[Numbers], psprove: Psprove, jobs: int,
         return [*pool.map(ask, range(len(projects)))]
 
 
-def whatif(project: Numbers, psprove: Psprove, jobs: int, changeable: int | None = None) -> tuple[Known, list[Outcome]]:
+def try_changes(project: Numbers, psprove: Psprove, jobs: int, changeable: int | None = None) -> tuple[Known, list[Outcome]]:
     """What is known of the project as it is, which gets a share of the time, and of its changes, of which the one with
     the shortest schedule comes first."""
     clock = psprove.clock

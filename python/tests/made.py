@@ -6,7 +6,7 @@ from collections.abc import Iterator
 
 import psmax
 from psmax.crew_hours import read_hours
-from psmax.formats.shops import Operation, Shop, fill
+from psmax.formats.shops import Operation, Shop, fill_from_shop
 from psmax.model import Group
 from psmax.project import Arc
 
@@ -64,7 +64,7 @@ def shop(seed: int, is_open: bool) -> psmax.Project:
     jobs, machines = chance.randint(1, 5), chance.randint(1, 5)
     rows: Shop = [[Operation(machine, chance.randint(0, 99)) for machine in chance.sample(range(machines), machines)]
                   for _ in range(jobs)]
-    fill(made, rows, is_open)
+    fill_from_shop(made, rows, is_open)
     return made
 
 

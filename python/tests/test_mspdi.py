@@ -65,7 +65,7 @@ class Mspdi(InFolder):
         starts = STARTS | {"watch": 8, "paint": 10}
         schedule = hall.check(starts).schedule
         self.assertTrue(hall.check(starts))
-        text = mspdi_text.replanned(HALL, schedule)
+        text = mspdi_text.replanned(HALL.encode(), schedule).decode()
         delays = re.findall("<LevelingDelay>(.*?)</LevelingDelay><LevelingDelayFormat>8<", text)
         self.assertEqual(delays, ["0"] * 5 + [f"{19 * 60 * 10}", "0"])
         for task in ElementTree.fromstring(text).iter("{http://schemas.microsoft.com/project}Task"):

@@ -20,19 +20,19 @@ class Strange(Exception):
     """An answer that can't be one of a search."""
 
 
-def checked(row: object, folder: pathlib.Path, number: int, ends: int) -> Row:
+def check_answer(row: object, folder: pathlib.Path, number: int, ends: int) -> Row:
     """The answer with its files as bytes, or none where they lie in the folder. Starts are those of activities 0 to
     `ends`."""
     try:
         assert isinstance(row, dict)
         found: Row = {"cube": row["cube"], "starts": row["starts"], "pieces": [*map(piece, row["pieces"])],
-                      "conflicts": whole(row["conflicts"]), "record_bytes": whole(row["record_bytes"]),
+                      "conflicts": check_whole(row["conflicts"]), "record_bytes": check_whole(row["record_bytes"]),
                       "seconds": float(row["seconds"])}
         assert found["cube"] in STATES and 0 <= found["seconds"] < MOST
-        assert found["starts"] is None or len([*map(whole, found["starts"])]) == ends + 1
+        assert found["starts"] is None or len([*map(check_whole, found["starts"])]) == ends + 1
         names = sorted(one["name"] for one in found["pieces"])
         assert names in ([], [""]) or are_all(names)
-        return found | {"files": {kind: file(row["files"][kind], folder, number, kind) for kind in MADE}}
+        return found | {"files": {kind: check_file(row["files"][kind], folder, number, kind) for kind in MADE}}
     except (AssertionError, LookupError, TypeError, ValueError, OverflowError, zlib.error) as fault:
         raise Strange(f"{STRANGE}" + (f": {fault}" if isinstance(fault, ValueError) else "")) from None
 
@@ -43,14 +43,14 @@ def are_all(names: list[str]) -> bool:
             and sum(2 ** (64 - len(name)) for name in names) == 2**64)
 
 
-def whole(number: object) -> int:
+def check_whole(number: object) -> int:
     if not isinstance(number, int) or isinstance(number, bool) or not -MOST < number < MOST:
         raise TypeError
     return number
 
 
 def piece(told: Row) -> Row:
-    arcs = [[*map(whole, arc)] for arc in told["arcs"]]
+    arcs = [[*map(check_whole, arc)] for arc in told["arcs"]]
     assert isinstance(told["name"], str) and all(len(arc) == 3 for arc in arcs)
     return {"name": told["name"], "arcs": arcs}
 
@@ -60,7 +60,7 @@ def left(number: int, sha256: str, kind: str) -> str:
     return f"{INCOMING}/{number}-{sha256}.{kind}"
 
 
-def file(told: Row, folder: pathlib.Path, number: int, kind: str) -> Row:
+def check_file(told: Row, folder: pathlib.Path, number: int, kind: str) -> Row:
     """The name of a file in the folder is made of its digest, which is that of its bytes."""
     sha256, packed = told["sha256"], told["data"]
     assert SHA256.fullmatch(sha256)

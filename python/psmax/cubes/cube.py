@@ -28,7 +28,7 @@ Ask = Callable[[], Row | None]  # the `starts` of the shortest schedule so far; 
 
 def on_dask(task: Row) -> Row:
     """The search on a worker of Dask."""
-    return search(task, ask_dask(task), ASK)
+    return search_cube(task, ask_dask(task), ASK)
 
 
 def ask_dask(task: Row) -> Ask:
@@ -43,13 +43,13 @@ def ask_dask(task: Row) -> Ask:
     return ask
 
 
-def search(task: Row, ask: Ask, every: float) -> Row:
+def search_cube(task: Row, ask: Ask, every: float) -> Row:
     """What psprove answers, with the files that it made."""
     with tempfile.TemporaryDirectory(prefix="cube-") as folder:
         here = pathlib.Path(folder)
         for name in GIVEN:
             (here / name).write_bytes(zlib.decompress(task[name]))
-        status, seconds = followed(words(task, here), here, task["below"], ask, every)
+        status, seconds = followed(search_words(task, here), here, task["below"], ask, every)
         if status not in (0, 3):
             raise failed("solve", status, here)
         row = json.loads((here / "out").read_text())
@@ -61,17 +61,17 @@ def program_of(task: Row) -> str:
     return program
 
 
-def told(here: pathlib.Path, file: str) -> str:
+def end_of_output(here: pathlib.Path, file: str) -> str:
     """The end of what psprove wrote there."""
     return (here / file).read_text(errors="replace").strip().removeprefix("psprove: ")[-300:]
 
 
 def failed(command: str, status: int, here: pathlib.Path) -> RuntimeError:
-    why = told(here, "err")
+    why = end_of_output(here, "err")
     return RuntimeError(f"psprove {command} ended with status {status}" + (f": {why}" if why else ""))
 
 
-def words(task: Row, here: pathlib.Path) -> list[str]:
+def search_words(task: Row, here: pathlib.Path) -> list[str]:
     found = [program_of(task), "solve", "--json", "--follow",
              "--project", str(here / "project"), "--under", str(here / "path"), "--record", str(here / "log"),
              "--export", str(here / "lemmas"), "--seconds", f"{SECONDS}",

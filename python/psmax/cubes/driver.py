@@ -36,14 +36,14 @@ class Lemmas:
 
     def add(self, text: str) -> None:
         found = self.best | by_arcs(text)
-        self.best = {arcs: found[arcs] for arcs in sorted(found, key=length)[:MOST_LEMMAS]}
+        self.best = {arcs: found[arcs] for arcs in sorted(found, key=sort_key)[:MOST_LEMMAS]}
 
     def chosen(self, kin: Iterable[str]) -> str:
         """Those of the cubes above first, and then the shortest."""
         first: dict[str, str] = {}
         for text in kin:
             first |= by_arcs(text)
-        lines = [*(first[arcs] for arcs in sorted(first, key=length)),
+        lines = [*(first[arcs] for arcs in sorted(first, key=sort_key)),
                  *(line for arcs, line in self.best.items() if arcs not in first)]
         return "".join(f"{line}\n" for line in lines[:MOST_LEMMAS])
 
@@ -58,7 +58,7 @@ def by_arcs(text: str) -> dict[str, str]:
     return {line.partition(" ")[2]: line for line in text.splitlines()}
 
 
-def length(arcs: str) -> tuple[int, str]:
+def sort_key(arcs: str) -> tuple[int, str]:
     return arcs.count(" "), arcs
 
 
@@ -135,7 +135,7 @@ class Driver:
         try:
             if isinstance(row, Exception):
                 raise row
-            row = answer.checked(row, self.tree.folder, number, self.spelled.end)
+            row = answer.check_answer(row, self.tree.folder, number, self.spelled.end)
         except Exception as fault:
             self.tree.write("lost", number=number)
             return self.fail(name, fault)

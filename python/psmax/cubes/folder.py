@@ -30,7 +30,7 @@ def digest(data: bytes) -> str:
     return hashlib.sha256(data).hexdigest()
 
 
-def mark(folder: pathlib.Path, project: bytes) -> None:
+def mark_folder(folder: pathlib.Path, project: bytes) -> None:
     """Makes a new folder, or an empty one, that of the cubes of a project. One that is there has to be that."""
     try:
         folder.mkdir(parents=True, exist_ok=True)
@@ -42,7 +42,7 @@ def mark(folder: pathlib.Path, project: bytes) -> None:
         raise BadInput(f"{folder} was begun with another project; name a new one with --out")
     for kind in (CUBES, INCOMING):
         (folder / kind).mkdir(exist_ok=True)
-    must_be_plain(folder)
+    must_have_no_links(folder)
 
 
 def is_empty(folder: pathlib.Path) -> bool:
@@ -50,18 +50,18 @@ def is_empty(folder: pathlib.Path) -> bool:
     return not folder.exists() or folder.is_dir() and all(OWN.fullmatch(name) for name in os.listdir(folder))
 
 
-def must_be_ours(folder: pathlib.Path) -> None:
+def must_be_cubes(folder: pathlib.Path) -> None:
     """A fault where the folder is neither new nor one of cubes."""
     if not is_empty(folder):
         marked(folder)
-        must_be_plain(folder)
+        must_have_no_links(folder)
 
 
 def marked(folder: pathlib.Path) -> str:
     """The digest of the project that the mark of a folder names."""
     if not folder.is_dir() or not os.path.lexists(folder / MARK):
         raise BadInput(f"{folder} is no folder of cubes: it has no file {MARK}; name a new one with --out")
-    with opened(folder / MARK) as file:
+    with open_file(folder / MARK) as file:
         found = SAID.fullmatch(file.read(PIECE))
     if found is None:
         raise BadInput(f"{folder / MARK} is no mark of a folder of cubes")
@@ -73,13 +73,13 @@ def marked(folder: pathlib.Path) -> str:
 def must_be_whole(folder: pathlib.Path) -> None:
     """A fault where this is no folder of cubes, or not with the project that it was begun with."""
     found = marked(folder)
-    must_be_plain(folder)
-    with opened(folder / PROJECT) as file:
+    must_have_no_links(folder)
+    with open_file(folder / PROJECT) as file:
         if digest(file.read()) != found:
             raise BadInput(f"{folder / PROJECT} is not the project that the folder was begun with")
 
 
-def must_be_plain(folder: pathlib.Path) -> None:
+def must_have_no_links(folder: pathlib.Path) -> None:
     """A fault where something in the folder is a link, or neither a file nor one of its folders."""
     for entry in entries(folder):
         if entry.is_symlink():
@@ -102,7 +102,7 @@ def files_of(folder: pathlib.Path) -> list[str]:
     return [entry.path for entry in entries(folder) if entry.is_file()]
 
 
-def opened(path: pathlib.Path, flags: int = os.O_RDONLY) -> BufferedReader | BufferedRandom:
+def open_file(path: pathlib.Path, flags: int = os.O_RDONLY) -> BufferedReader | BufferedRandom:
     """The file, which is no link."""
     try:
         place = os.open(path, flags | os.O_NOFOLLOW | os.O_CLOEXEC, 0o666)
@@ -113,7 +113,7 @@ def opened(path: pathlib.Path, flags: int = os.O_RDONLY) -> BufferedReader | Buf
 
 def locked(folder: pathlib.Path) -> BufferedRandom:
     """The rows, to which this process alone writes. A last one that was cut off goes."""
-    file = opened(folder / ROWS, os.O_RDWR | os.O_CREAT)
+    file = open_file(folder / ROWS, os.O_RDWR | os.O_CREAT)
     assert isinstance(file, BufferedRandom)
     try:
         fcntl.flock(file, fcntl.LOCK_EX | fcntl.LOCK_NB)
@@ -130,7 +130,7 @@ def locked(folder: pathlib.Path) -> BufferedRandom:
 
 def is_driven(folder: pathlib.Path) -> bool:
     """Whether a driver holds the lock."""
-    with opened(folder / ROWS) as file:
+    with open_file(folder / ROWS) as file:
         try:
             fcntl.flock(file, fcntl.LOCK_SH | fcntl.LOCK_NB)
         except OSError:
@@ -149,7 +149,7 @@ def clean(folder: pathlib.Path) -> None:
 def digest_of(path: pathlib.Path) -> str:
     """Of a file's bytes; empty where it can't be read."""
     try:
-        with opened(path) as file:
+        with open_file(path) as file:
             return hashlib.file_digest(file, "sha256").hexdigest()
     except (Failed, OSError):
         return ""
@@ -157,13 +157,13 @@ def digest_of(path: pathlib.Path) -> str:
 
 def take(path: pathlib.Path, target: pathlib.Path) -> None:
     """Moves a file that somebody else has written to its name, once the disk has it."""
-    with opened(path) as file:
+    with open_file(path) as file:
         os.fsync(file.fileno())
     os.replace(path, target)
     keep_names(target.parent)
 
 
-def write(path: pathlib.Path, data: bytes) -> None:
+def write_file(path: pathlib.Path, data: bytes) -> None:
     """Writes a file of the folder, whole or not at all."""
     if path.is_symlink():
         raise BadInput(f"{path} is a link; nothing in a folder of cubes is one")

@@ -17,7 +17,7 @@ from typing import Any, NamedTuple, Protocol
 from ..errors import Failed
 from . import cube, part
 from .cube import Ask, Row
-from .folder import write
+from .folder import write_file
 
 FETCH = 30.0  # seconds for a result's way to the driver
 AHEAD = 1.2  # cubes with a cluster for each of its threads, so that none waits for the driver
@@ -34,7 +34,7 @@ class Work(NamedTuple):
     on_dask: Callable[[Row], Row]
 
 
-SEARCH, CHECK = Work(cube.search, cube.on_dask), Work(part.check, part.on_dask)
+SEARCH, CHECK = Work(cube.search_cube, cube.on_dask), Work(part.check_part, part.on_dask)
 
 
 class Coming(Protocol):
@@ -93,7 +93,7 @@ class Machines:
         token = folder / "token"
         if token.exists() and RUN.fullmatch(before := token.read_text(errors="replace")):
             self.end(before)
-        write(token, self.run.encode())
+        write_file(token, self.run.encode())
 
     def end(self, run: str) -> None:
         pass

@@ -9,17 +9,17 @@ import time
 import zlib
 from typing import IO
 
-from .cube import ASK, Ask, Row, ask_dask, failed, program_of, told
+from .cube import ASK, Ask, Row, ask_dask, failed, program_of, end_of_output
 
 PIECE = 1 << 20  # bytes of the record that are read at once
 
 
 def on_dask(task: Row) -> Row:
     """The check on a worker of Dask."""
-    return check(task, ask_dask(task), ASK)
+    return check_part(task, ask_dask(task), ASK)
 
 
-def check(task: Row, ask: Ask, every: float) -> Row:
+def check_part(task: Row, ask: Ask, every: float) -> Row:
     """What psprove says of the part, and whether the bytes that it was given are those of the record."""
     with tempfile.TemporaryDirectory(prefix="part-") as folder:
         here = pathlib.Path(folder)
@@ -27,18 +27,18 @@ def check(task: Row, ask: Ask, every: float) -> Row:
         part = f"{task['number']}/{task['count']}"
         words = [program_of(task), "verify", "--part", part, "--project", str(here / "project")]
         try:
-            source = record_of(task)
+            source = open_record(task)
         except OSError:  # this machine doesn't see the file
             return {"is_same": False}
         with source:
             status, digest = fed(words, source, here, ask, every)
         if status not in (0, 4):
             raise failed("verify", status, here)
-        says = told(here, "out" if status == 0 else "err")
+        says = end_of_output(here, "out" if status == 0 else "err")
         return {"is_same": digest == task["sha256"], "is_right": status == 0, "says": says}
 
 
-def record_of(task: Row) -> IO[bytes]:
+def open_record(task: Row) -> IO[bytes]:
     """The record, which comes with the task, or is a file."""
     return io.BytesIO(zlib.decompress(task["record"])) if "record" in task else open(task["path"], "rb")
 

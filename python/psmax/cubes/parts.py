@@ -2,6 +2,7 @@
 All parts are right and say the same: then the record is right. Of workers of a cluster that is believed, but for parts
 that are drawn at random and judged here too, and for faults."""
 import hashlib
+import mmap
 import os
 import re
 import secrets
@@ -13,9 +14,8 @@ from dataclasses import dataclass
 
 from ..clock import Clock, tell
 from ..errors import Failed
-from ..files import read_bytes, reason
+from ..files import read_bytes, sha256_of
 from ..record import PROVED
-from .claim import claim_of
 from .cube import Row
 from .machines import Machines
 
@@ -23,6 +23,9 @@ TRIES = 3  # of a part whose check fails, and not the record
 GLANCE = 0.2  # seconds between two looks at the machines
 OWN = 2  # parts that are judged here as well as by workers
 FAULT = re.compile(r"event (\d+): .*")
+TITLE = b"record 3\n"
+KINDS = {3: "optimal", 7: "bound", 11: "no schedule"}  # of the last event of a record
+LONGEST = 9  # bytes of a number
 
 
 @dataclass(frozen=True)
@@ -42,7 +45,7 @@ class RecordParts:
     def __init__(self, path: str, text: bytes, machines: Machines, clock: Clock, here: Machines | None = None) -> None:
         self.path, self.machines, self.clock, self.here = path, machines, clock, here
         self.all = {machines} if here is None else {machines, here}
-        self.sha256, self.count = digest_of(path), 1
+        self.sha256, self.count = sha256_of(path), 1
         self.claim = claim_of(path)
         self.task: Row = {"path": os.path.abspath(path), "project": zlib.compress(text), "sha256": self.sha256, "age": 0}
         self.tries: Counter[tuple[Machines, int]] = Counter()
@@ -105,7 +108,7 @@ class RecordParts:
     def take(self, machines: Machines, number: int, row: Row | Exception) -> None:
         if isinstance(row, Exception):
             return self.try_again(machines, number, (str(row) or repr(row)).partition(". ")[0])
-        if not is_answer(row):
+        if not has_answer_form(row):
             return self.try_again(machines, number, f"an answer of no known form, by {row['by']}")
         if not row["is_same"] and (machines, number) in self.sent:
             return self.try_again(machines, number, f"{row['by']} was given other bytes than it was sent")
@@ -162,7 +165,7 @@ class RecordParts:
         return Judged(says, is_wrong, self.count, tuple(sorted(self.own)), believed)
 
 
-def is_answer(row: Row) -> bool:
+def has_answer_form(row: Row) -> bool:
     """Whether it has the form of one, whatever it says."""
     is_verdict = isinstance(row.get("says"), str) and isinstance(row.get("is_right"), bool)
     return row.get("is_same") is False or is_verdict and row.get("is_same") is True
@@ -184,10 +187,46 @@ def said_by(number: int, count: int, says: str) -> str:
     return says.removeprefix(begin)
 
 
-def digest_of(path: str) -> str:
-    """The SHA-256 of a file."""
-    try:
-        with open(path, "rb") as file:
-            return hashlib.file_digest(file, "sha256").hexdigest()
-    except OSError as fault:
-        raise Failed(f"cannot read {path}: {reason(fault)}") from None
+def claim_of(path: str) -> str | None:
+    """The claim that ends the record, such as `optimal 7`; none where the file is no record of lemmas, or cut off."""
+    with open(path, "rb") as file:
+        if os.fstat(file.fileno()).st_size <= len(TITLE):
+            return None
+        with mmap.mmap(file.fileno(), 0, access=mmap.ACCESS_READ) as data:
+            if data[: len(TITLE)] != TITLE:
+                return None
+            begin, end = last_event(data, len(TITLE))
+            return None if end != len(data) else read_claim(data[begin:end])
+
+
+def last_event(data: mmap.mmap, place: int) -> tuple[int, int]:
+    """From where to where the last event goes; past the end where it is cut off."""
+    begin, size = place, len(data)
+    while place < size:
+        length = data[place]
+        place += 1
+        if length > 127:
+            length, place = read_number(data[place - 1 : place + LONGEST - 1], place - 1)
+        begin, place = place, place + length
+    return begin, place
+
+
+def read_number(data: bytes, place: int = 0) -> tuple[int, int]:
+    """The number that begins the bytes, which stand at a place, and the place behind it; far off where they have
+    none."""
+    found = 0
+    for count, byte in enumerate(data[:LONGEST]):
+        found |= (byte & 127) << 7 * count
+        if byte < 128:
+            return found, place + count + 1
+    return 0, 1 << 64
+
+
+def read_claim(event: bytes) -> str | None:
+    kind, place = read_number(event)
+    if kind not in KINDS or place > len(event):
+        return None
+    if KINDS[kind] == "no schedule":
+        return KINDS[kind] if place == len(event) else None
+    value, end = read_number(event[place:], place)
+    return f"{KINDS[kind]} {value // 2 if value % 2 == 0 else -(value + 1) // 2}" if end == len(event) else None

@@ -23,7 +23,7 @@ from ..errors import BadInput
 from . import folder as folders
 from .answer import left
 from .cube import MADE, TOLD, Row
-from .folder import CUBES, PROJECT, ROWS, digest, digest_of, write
+from .folder import CUBES, PROJECT, ROWS, digest, digest_of, write_file
 
 WHOLE = "-"  # what the cube without a path is called by psprove
 SUM = ', "sum": "'  # before the checksum of a row
@@ -120,7 +120,7 @@ class Tree:
 
     def refute(self, name: str) -> None:
         self.refuted.add(name)
-        self.share += part(name)
+        self.share += share_of_tree(name)
 
     def learn(self, starts: list[int] | None) -> None:
         if starts is not None and (self.starts is None or starts[-1] < self.starts[-1]):
@@ -131,14 +131,14 @@ class Tree:
         name = self.damaged[number] = self.logs[number]
         if name in self.refuted:
             self.refuted.discard(name)
-            self.share -= part(name)
+            self.share -= share_of_tree(name)
 
     def open_again(self, name: str) -> None:
         """Without its logs; a cube that was split stays so."""
         was_refuted = name in self.refuted
         if was_refuted:
             self.refuted.discard(name)
-            self.share -= part(name)
+            self.share -= share_of_tree(name)
         if was_refuted or name in self.damaged.values() and self.is_leaf(name):
             self.waiting.add(name)
         self.logs = {number: other for number, other in self.logs.items() if other != name}
@@ -196,7 +196,7 @@ class Tree:
             got = f"cubes/{number}.import" if self.file(number, "import").stat().st_size else "-"
             arcs = (f"{place}" for arc in self.cubes[name].arcs for place in arc)
             lines.append(" ".join([name or WHOLE, f"cubes/{number}.log", got, *arcs]) + "\n")
-        write(self.folder / "tree", "".join(lines).encode())
+        write_file(self.folder / "tree", "".join(lines).encode())
         return self.folder / "tree"
 
 
@@ -204,12 +204,12 @@ class Driven(Tree):
     """The tree as its driver has it, which holds its lock."""
 
     def __init__(self, folder: pathlib.Path, project: bytes) -> None:
-        folders.mark(folder, project)
+        folders.mark_folder(folder, project)
         self.rows = folders.locked(folder)
         try:
             folders.clean(folder)
             if digest_of(folder / PROJECT) != digest(project):
-                write(folder / PROJECT, project)
+                write_file(folder / PROJECT, project)
             super().__init__(folder)
         except BaseException:
             self.rows.close()
@@ -242,7 +242,7 @@ class Driven(Tree):
     def give(self, name: str, lemmas: str, starts: tuple[int, ...] | None) -> int:
         """The number of a search of the cube, which gets these."""
         number = self.number + 1
-        write(self.file(number, "import"), lemmas.encode())
+        write_file(self.file(number, "import"), lemmas.encode())
         self.write("given", number=number, cube=name, starts=starts, sha256={"import": digest(lemmas.encode())})
         return number
 
@@ -255,7 +255,7 @@ class Driven(Tree):
         """A search of the project before there are cubes, which got no lemmas and leaves none."""
         number, files = self.number + 1, {"log": log, "import": b"", "lemmas": b""}
         for kind, data in files.items():
-            write(self.file(number, kind), data)
+            write_file(self.file(number, kind), data)
         self.write("first", number=number, sha256={kind: digest(data) for kind, data in files.items()}, **row)
 
     def keep(self, number: int, row: Row) -> None:
@@ -265,7 +265,7 @@ class Driven(Tree):
             if data is None:
                 folders.take(self.folder / left(number, sha256, kind), self.file(number, kind))
             else:
-                write(self.file(number, kind), data)
+                write_file(self.file(number, kind), data)
         told = {key: row[key] for key in (*TOLD, "seconds") if key != "cube"}
         digests = {kind: row["files"][kind]["sha256"] for kind in MADE}
         self.write("ended", number=number, state=row["cube"], **told, sha256=digests)
@@ -287,7 +287,7 @@ def with_sum(row: str) -> str:
 
 def read_rows(path: pathlib.Path) -> Iterator[Row]:
     """The rows that are whole."""
-    with folders.opened(path) as file:
+    with folders.open_file(path) as file:
         for number, line in enumerate(file, 1):
             if line.endswith(b"\n"):
                 yield read_row(path, number, line.decode("utf-8", "replace").removesuffix("\n"))
@@ -301,6 +301,6 @@ def read_row(path: pathlib.Path, number: int, line: str) -> Row:
     return row
 
 
-def part(name: str) -> float:
+def share_of_tree(name: str) -> float:
     """Of the whole tree."""
     return 0.5 ** len(name)

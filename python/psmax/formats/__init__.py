@@ -3,6 +3,8 @@ import pathlib
 import re
 from collections.abc import Callable
 from dataclasses import dataclass
+from importlib import import_module
+from typing import Any
 
 from ..errors import BadInput, WrongType
 from ..files import LARGEST, decoded, must_be_short
@@ -26,31 +28,17 @@ class Format:
     has_dated_lags: bool = False  # in calendar days
 
 
-def read_mspdi(text: str, project: Parts) -> None:
-    from . import mspdi
-    mspdi.read(text, project)
-
-
-def write_mspdi(project: Parts) -> str:
-    from . import mspdi_text
-    return mspdi_text.write(project)
-
-
-def read_xer(text: str, project: Parts) -> None:
-    from . import xer
-    xer.read(text, project)
-
-
-def write_xer(project: Parts) -> str:
-    from . import xer_text
-    return xer_text.write(project)
+def imported(module: str, name: str) -> Callable[..., Any]:
+    """A function of a module that is imported once it is called, since few need it."""
+    return lambda *given: getattr(import_module(f".{module}", __name__), name)(*given)
 
 
 # In the order in which a text is looked at.
 FORMATS = {one.name: one for one in (
     Format("json", (json_text.SUFFIX,), json_text.is_like, json_text.read, json_text.write, True, True),
-    Format("mspdi", (mspdi_sign.SUFFIX,), mspdi_sign.is_like, read_mspdi, write_mspdi, True),
-    Format("xer", (xer_sign.SUFFIX,), xer_sign.is_like, read_xer, write_xer, True),
+    Format("mspdi", (mspdi_sign.SUFFIX,), mspdi_sign.is_like, imported("mspdi", "read"),
+           imported("mspdi_text", "write"), True),
+    Format("xer", (xer_sign.SUFFIX,), xer_sign.is_like, imported("xer", "read"), imported("xer_text", "write"), True),
     Format("sm", (sm.SUFFIX,), sm.is_like, sm.read, sm.write),
     Format("open-shop", (), taillard.is_like_open_shop, taillard.read_open_shop, taillard.write_open_shop),
     Format("taillard", (), taillard.is_like_job_shop, taillard.read_job_shop, taillard.write_job_shop),
@@ -60,7 +48,7 @@ FORMATS = {one.name: one for one in (
 )}
 
 
-def named(name: str) -> Format:
+def format_named(name: str) -> Format:
     if not isinstance(name, str):
         raise WrongType(f"format {short(repr(name))}: no name of a format, such as {', '.join(FORMATS)}")
     if name not in FORMATS:
@@ -99,7 +87,7 @@ def read(data: bytes, project: Parts, called: str, name: str | None = None) -> F
     must_be_readable(called, data)
     text = composed(decoded(data))
     try:
-        one = found(text) if name is None else named(name)
+        one = found(text) if name is None else format_named(name)
         one.read(text, project)
     except BadInput as fault:
         raise BadInput(*(f"{called}: {re.sub('^the text: ', '', str(told))}" for told in fault.args)) from None
@@ -118,7 +106,7 @@ def must_be_readable(called: str, data: bytes) -> None:
         raise BadInput(f"{called}: too long: it has more than {LARGEST:,} bytes")
 
 
-def of_file(path: str) -> str:
+def format_of_file(path: str) -> str:
     """The name of the format that files of this suffix have."""
     suffix = pathlib.PurePath(path).suffix.lower()
     one = next((one.name for one in FORMATS.values() if suffix in one.suffixes), None)

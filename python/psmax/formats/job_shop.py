@@ -4,7 +4,7 @@ from collections.abc import Iterator
 from ..errors import BadInput
 from ..model import Parts
 from .numbers import Reader, all_numbers, first_lines, lines_of
-from .shops import Operation, fill, job_shop_of, read_sizes
+from .shops import Operation, fill_from_shop, job_shop_of, read_sizes
 
 NAME, SUFFIX = "a job shop by lines", ".jsp"
 
@@ -34,7 +34,7 @@ def read(text: str, project: Parts) -> None:
             raise BadInput(f"job {job} has two operations on one machine, and each machine has one of each job")
         shop.append(row)
     numbers.must_end()
-    fill(project, shop)
+    fill_from_shop(project, shop)
 
 
 def write(project: Parts) -> str:

@@ -31,35 +31,35 @@ def is_like(text: str) -> bool:
 
 
 def read(text: str, project: Parts) -> None:
-    fill(project, parsed(text))
+    fill_from_object(project, parse_json(text))
 
 
-def fill(project: Parts, value: object) -> None:
+def fill_from_object(project: Parts, value: object) -> None:
     """Reads the object of a project into an empty one."""
-    told = checked(value, "the project")
+    told = check_keys(value, "the project")
     if told["format"] != KIND:
         raise BadInput(f"the format is not '{KIND}': {short(repr(told['format']))}")
-    project.name = named(told.get("name", ""), "the name of the project")
+    project.name = as_text(told.get("name", ""), "the name of the project")
     if "work time" in told:
-        project.calendar = work_time(checked(told["work time"], "the work time"))
+        project.calendar = read_work_time(check_keys(told["work time"], "the work time"))
     resources: dict[str, Resource] = {}
     for one in objects(told, "resources", "a resource"):
-        made = project.resource(named(one["name"], "the name of a resource"), integer(one["capacity"], "a capacity"))
+        made = project.resource(as_text(one["name"], "the name of a resource"), integer(one["capacity"], "a capacity"))
         resources[made.name] = made
         if "hours" in one:
-            project.hours[made] = hours(one["hours"], made.name)
+            project.hours[made] = parse_hours(one["hours"], made.name)
     for one in objects(told, "activities", "an activity"):
         read_activity(one, project, resources)
     for one in objects(told, "lags", "a lag"):
         read_lag(one, project)
     for one in objects(told, "absences", "an absence"):
         until, units = (integer(one[key], f"an absence's `{key}`") if key in one else None for key in ("to", "units"))
-        project.absence(resource(one["resource"], resources), integer(one["from"], "an absence's `from`"), until, units)
+        project.absence(find_resource(one["resource"], resources), integer(one["from"], "an absence's `from`"), until, units)
     project.status = integer(told["status"], "'status'") if "status" in told else None
     must_have_hours(project)
 
 
-def parsed(text: str) -> object:
+def parse_json(text: str) -> object:
     try:
         return json.loads(text, object_pairs_hook=without_repetition)
     except json.JSONDecodeError as fault:
@@ -80,7 +80,7 @@ def without_repetition(pairs: list[tuple[str, object]]) -> dict[str, object]:
     return found
 
 
-def checked(value: object, what: str) -> Object:
+def check_keys(value: object, what: str) -> Object:
     """An object with the keys that such a thing has."""
     if not isinstance(value, dict):
         raise BadInput(f"{what} is no object: {short(repr(value))}")
@@ -96,10 +96,10 @@ def objects(told: Object, key: str, what: str) -> list[Object]:
     values = told.get(key, [])
     if not isinstance(values, list):
         raise BadInput(f"'{key}' is no list")
-    return [checked(value, what) for value in values]
+    return [check_keys(value, what) for value in values]
 
 
-def named(value: object, what: str) -> str:
+def as_text(value: object, what: str) -> str:
     if not isinstance(value, str):
         raise BadInput(f"{what} is no text: {short(repr(value))}")
     return value
@@ -115,9 +115,9 @@ def read_activity(one: Object, project: Parts, resources: Mapping[str, Resource]
     needs = one.get("demands", {})
     if not isinstance(needs, dict):
         raise BadInput("'demands' is no object")
-    name = named(one["name"], "the name of an activity")
+    name = as_text(one["name"], "the name of an activity")
     project.activity(name, integer(one["duration"], f"the duration of {short(name)}"),
-                     {resource(key, resources): integer(units, f"the demand of {short(name)}") for key, units in needs.items()},
+                     {find_resource(key, resources): integer(units, f"the demand of {short(name)}") for key, units in needs.items()},
                      integer(one["due"], f"when {short(name)} is due") if "due" in one else None)
 
 
@@ -130,14 +130,14 @@ def read_lag(one: Object, project: Parts) -> None:
     project.lag(point(one["from"], project), point(one["to"], project), at_least=low, at_most=high)
 
 
-def resource(name: object, resources: Mapping[str, Resource]) -> Resource:
+def find_resource(name: object, resources: Mapping[str, Resource]) -> Resource:
     if not isinstance(name, str) or name not in resources:
         raise BadInput(f"no resource {short(repr(name))}")
     return resources[name]
 
 
-def hours(value: object, name: str) -> Hours:
-    text = named(value, f"the hours of {short(name)}")
+def parse_hours(value: object, name: str) -> Hours:
+    text = as_text(value, f"the hours of {short(name)}")
     try:
         return read_hours(text)
     except ValueError as fault:
@@ -164,12 +164,12 @@ def point(value: object, project: Parts) -> Point:
     name, end = value
     if name is None:
         return project.end if end == "end" else project.start
-    activity = project[named(name, "the name of an activity")]
+    activity = project[as_text(name, "the name of an activity")]
     return activity.end if end == "end" else activity.start
 
 
-def work_time(told: Object) -> WorkTime:
-    texts = {key: named(text, f"'{key}'") for key, text in told.items() if key != "holidays"}
+def read_work_time(told: Object) -> WorkTime:
+    texts = {key: as_text(text, f"'{key}'") for key, text in told.items() if key != "holidays"}
     days = told.get("holidays", [])
     if not isinstance(days, list):
         raise BadInput("'holidays' is no list")

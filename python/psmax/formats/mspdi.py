@@ -3,23 +3,21 @@ import datetime
 import re
 from dataclasses import dataclass
 from functools import cached_property
-from math import gcd
 from xml.etree.ElementTree import Element
 
 from ..calendars import BEYOND, Calendar
 from ..crew_hours import Hours
-from ..dates import read_shift
 from ..errors import BadInput
 from ..letters import printable, short
 from ..model import Parts
 from ..work_time import WorkTime
-from .mspdi_calendar import base_calendar, by_uid, holidays, hours, is_like_project
+from .mspdi_calendar import base_calendar, by_uid, free_days_of, days_and_hours, is_like_project
 from .mspdi_lags import WHOLE, read_entries
 from .mspdi_limits import Constraints, due_dates
 from .mspdi_outline import Outline, is_set
-from .mspdi_resources import Needs, crew_hours
-from .tool_file import Gathering, Link, must_fit
-from .xml_tree import parsed, text_of
+from .mspdi_resources import TaskNeeds, hours_of_resources
+from .tool_file import Gathering, Link, checked_moment, longest_period, must_fit_hours
+from .xml_tree import parse_xml, text_of
 
 SPACE = "http://schemas.microsoft.com/project"
 LENGTH = re.compile(r"PT(\d{1,7})H(\d{1,3})M(\d{1,3})(?:\.\d+)?S")
@@ -27,11 +25,10 @@ ENDS = {"0": (True, True), "1": (True, False), "2": (False, True), "3": (False, 
 ELAPSED = {f"{kind + more}" for kind in (4, 6, 8, 10, 12, 20) for more in (0, 32)}  # lengths in time that passes
 SHARES = {"19", "51"}  # lags that are a part of a duration
 TENTHS = 10  # of a minute, in which lags are told
-FIRST_YEAR, LAST_YEAR = 1900, 2200  # of dates
 
 
 @dataclass
-class Document(Gathering):
+class MspdiDocument(Gathering):
     """An MSPDI file as far as it is read."""
 
     root: Element
@@ -83,19 +80,15 @@ class Document(Gathering):
 
     @cached_property
     def crews(self) -> dict[str, Hours]:
-        return crew_hours(self)
+        return hours_of_resources(self)
 
     @cached_property
     def minutes(self) -> int:
         """How long a period is: the longest that divides all lengths, the hours of work, also of resources, and what
         lies before tasks that are scheduled by hand and before the start of the project."""
-        parts, begun = read_shift(self.hours[1]), 60 * self.first.hour + self.first.minute
-        marks = {begun, *(mark for hours in self.crews.values() for mark in hours.marks())}
-        lengths = [length for begins, ends in parts
-                   for length in (ends - begins, *(mark - begins for mark in marks if begins < mark < ends))]
-        lengths += [*self.durations.values(), *(abs(link.minutes) for link in [*self.links, *self.most]),
-                    *self.by_hand.values()]
-        return gcd(*lengths)
+        marks = [mark for hours in self.crews.values() for mark in hours.marks()]
+        lags = (abs(link.minutes) for link in [*self.links, *self.most])
+        return longest_period(self.first, self.hours[1], marks, [*self.durations.values(), *lags, *self.by_hand.values()])
 
     @cached_property
     def by_hand(self) -> dict[str, int]:
@@ -110,7 +103,7 @@ class Document(Gathering):
 
     @cached_property
     def hours(self) -> tuple[str, str]:
-        return hours(self.root)
+        return days_and_hours(self.root)
 
     @cached_property
     def first(self) -> datetime.datetime:
@@ -122,7 +115,7 @@ class Document(Gathering):
     def work(self, period: str) -> WorkTime:
         workdays, shift = self.hours
         return WorkTime(self.first.isoformat(" ", "minutes"), period, workdays,
-                        holidays(self.root, base_calendar(self.root)), shift)
+                        free_days_of(self.root, base_calendar(self.root)), shift)
 
     @cached_property
     def clock(self) -> Calendar:
@@ -131,7 +124,7 @@ class Document(Gathering):
 
     @cached_property
     def work_time(self) -> WorkTime:
-        return self.work(period_of(self.minutes))
+        return self.work(period_name(self.minutes))
 
     @cached_property
     def calendar(self) -> Calendar:
@@ -142,13 +135,8 @@ class Document(Gathering):
         text = text_of(parent, name)
         if text is None or text in ("NA", "0"):
             return None
-        try:
-            found = datetime.datetime.fromisoformat(text).replace(second=0, microsecond=0, tzinfo=None)
-        except ValueError:
-            raise BadInput(f"{called}: {name} is no date such as 2026-03-02T08:00:00: '{short(text)}'") from None
-        if not FIRST_YEAR <= found.year <= LAST_YEAR:
-            raise BadInput(f"{called}: {name} is beyond the years {FIRST_YEAR} to {LAST_YEAR}: '{short(text)}'")
-        return found
+        found = checked_moment(text, datetime.datetime.fromisoformat, "2026-03-02T08:00:00", f"{called}: {name}")
+        return found.replace(second=0, microsecond=0, tzinfo=None)
 
     def first_moment(self, uid: str, *names: str) -> datetime.datetime | None:
         """That of the first of these names that a task has."""
@@ -228,19 +216,19 @@ def calendar_of(time: WorkTime) -> Calendar:
         raise BadInput(BEYOND) from None
 
 
-def period_of(minutes: int) -> str:
+def period_name(minutes: int) -> str:
     if minutes in (1, 60):
         return "minutes" if minutes == 1 else "hours"
     return f"{minutes // 60} hours" if minutes % 60 == 0 else f"{minutes} minutes"
 
 
 def read(text: str, project: Parts) -> None:
-    root = parsed(text)
+    root = parse_xml(text)
     if root.tag != "Project" or root.get("xmlns", SPACE) != SPACE:
         raise BadInput("the XML is no project of Microsoft Project (MSPDI)")
-    document = Document(root)
+    document = MspdiDocument(root)
     project.name = printable(text_of(root, "Title") or "")
-    needs = Needs(document)
+    needs = TaskNeeds(document)
     project.calendar = document.work_time
     with document.kept():
         needs.fill(project)
@@ -249,15 +237,10 @@ def read(text: str, project: Parts) -> None:
         project.activity(document.names[uid], document.durations[uid] // document.minutes, needs.of.get(uid), due.get(uid))
     own = {uid: project[name] for uid, name in document.names.items()}
     for link in document.links:
-        point = own[link.before].end if link.from_end else own[link.before].start
-        project.lag(point, own[link.after].end if link.to_end else own[link.after].start,
-                    at_least=link.minutes // document.minutes)
+        project.lag(*link.points(project, own), at_least=link.minutes // document.minutes)
     for link in document.most:
-        point = own[link.after].end if link.to_end else own[link.after].start
-        before = project.start if link.before == f"{WHOLE}" else (
-            own[link.before].end if link.from_end else own[link.before].start)
-        project.lag(before, point, at_most=link.minutes // document.minutes)
+        project.lag(*link.points(project, own), at_most=link.minutes // document.minutes)
     Constraints(document, project, own).add()
     project.groups, project.ids = document.outline.groups(), document.outline.ids()
-    must_fit(project, document, lambda activity: f"task '{short(activity.name)}'")
+    must_fit_hours(project, document, lambda activity: f"task '{short(activity.name)}'")
     document.tell()

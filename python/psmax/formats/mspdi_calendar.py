@@ -5,13 +5,12 @@ from collections.abc import Collection, Sequence
 from xml.etree.ElementTree import Element, SubElement
 
 from ..crew_hours import WEEK, Span
-from ..dates import read_shift, read_workdays
+from ..dates import MIDNIGHT, SHORT_DAYS, clock_text, day_ranges, read_shift, read_workdays
 from ..errors import BadInput
 from ..letters import short
 from .tool_file import USUAL
 from .xml_tree import text_of
 
-NAMES = ("mon", "tue", "wed", "thu", "fri", "sat", "sun")
 SUNDAY = 1  # the kind of day; Saturday is 7, and 0 an exception
 BASE = "1"  # the UID of the calendar of a project that is written
 MOST_HOLIDAYS = 10_000
@@ -20,7 +19,7 @@ HOURS = re.compile(r"(\d\d):(\d\d):00")
 
 def of_resource(project: Element, calendar: Element) -> list[list[Span]]:
     """The hours of Monday to Sunday of a calendar with the days off of the project's."""
-    if holidays(project, calendar) != holidays(project, base_calendar(project)):
+    if free_days_of(project, calendar) != free_days_of(project, base_calendar(project)):
         raise BadInput("other days off than the project's; they may stand in its availability")
     found = spans(project, calendar)
     try:
@@ -44,7 +43,7 @@ def is_base(calendar: Element) -> bool:
     return text_of(calendar, "IsBaseCalendar") in ("1", "true")
 
 
-def chain(project: Element, calendar: Element | None) -> list[Element]:
+def bases_of(project: Element, calendar: Element | None) -> list[Element]:
     """A calendar, the one that it is based on, and so on."""
     found: list[Element] = []
     while calendar is not None and calendar not in found:
@@ -57,12 +56,12 @@ def is_like_project(project: Element, uid: str | None) -> bool:
     """Whether the calendar of this UID has the days, hours and days off of the project's. None is the project's."""
     own, base = by_uid(project, uid), base_calendar(project)
     try:
-        return own is None or (spans(project, own), holidays(project, own)) == (spans(project, base), holidays(project, base))
+        return own is None or (spans(project, own), free_days_of(project, own)) == (spans(project, base), free_days_of(project, base))
     except BadInput:
         return False
 
 
-def hours(project: Element) -> tuple[str, str]:
+def days_and_hours(project: Element) -> tuple[str, str]:
     """The workdays of the project's calendar and the hours of a day with work, such as `mon-fri` and
     `08:00-12:00,13:00-17:00`."""
     found = spans(project, base_calendar(project))
@@ -75,14 +74,14 @@ def hours(project: Element) -> tuple[str, str]:
         read_shift(shift)
     except ValueError as fault:
         raise BadInput(f"the hours of the base calendar: {fault}") from None
-    return in_ranges(found), shift
+    return day_ranges(found, SHORT_DAYS), shift
 
 
 def spans(project: Element, calendar: Element | None) -> dict[int, list[str]]:
     """The hours of each day of the week that has work. A calendar says what is not as in the one that it is based
     on."""
     found: dict[int, list[str]] = {}
-    for one in reversed(chain(project, calendar)):
+    for one in reversed(bases_of(project, calendar)):
         if one.find("WorkWeeks/WorkWeek/WeekDays/WeekDay") is not None:
             raise BadInput("the base calendar has weeks with other days or hours, and all weeks here are alike")
         for day in one.findall("WeekDays/WeekDay"):
@@ -102,21 +101,10 @@ def span_of(one: Element) -> str:
     return f"{begins[1]}:{begins[2]}-{last}"
 
 
-def in_ranges(days: Collection[int]) -> str:
-    """Days of the week, such as mon-wed,fri."""
-    found: list[list[int]] = []
-    for day in sorted(days):
-        if found and found[-1][-1] == day - 1:
-            found[-1].append(day)
-        else:
-            found.append([day])
-    return ",".join(NAMES[one[0]] if len(one) == 1 else f"{NAMES[one[0]]}-{NAMES[one[-1]]}" for one in found)
-
-
-def holidays(project: Element, calendar: Element | None) -> tuple[datetime.date, ...]:
+def free_days_of(project: Element, calendar: Element | None) -> tuple[datetime.date, ...]:
     """The exceptions without work. One with work has hours that other days don't have."""
     found: set[datetime.date] = set()
-    exceptions = [one for own in chain(project, calendar) for one in (
+    exceptions = [one for own in bases_of(project, calendar) for one in (
         *own.findall("Exceptions/Exception"),
         *(day for day in own.findall("WeekDays/WeekDay") if text_of(day, "DayType") == "0"))]
     for one in exceptions:
@@ -175,4 +163,4 @@ def add_week(calendar: Element, hours: Sequence[Sequence[Span]]) -> None:
         for span in spans:
             time = SubElement(times, "WorkingTime")
             for name, minutes in zip(("FromTime", "ToTime"), span):
-                SubElement(time, name).text = f"{minutes // 60 % 24:02}:{minutes % 60:02}:00"
+                SubElement(time, name).text = f"{clock_text(minutes % MIDNIGHT)}:00"

@@ -1,7 +1,7 @@
 """The lags of a project as MSPDI has them: links, constraints, and a field of the task for what these can't say, such
 as maximum lags and links that would close a circle. A note says the same to people."""
 import re
-from collections.abc import Iterable
+from collections.abc import Iterable, Iterator
 from dataclasses import dataclass, field
 from graphlib import CycleError, TopologicalSorter
 from xml.etree.ElementTree import Element
@@ -9,6 +9,7 @@ from xml.etree.ElementTree import Element
 from ..errors import BadInput
 from ..letters import short
 from ..model import Activity, Lag, Parts, Point
+from ..project import leads
 from .mspdi_outline import texts_of_field
 from .tool_file import Gathering, is_said
 
@@ -36,7 +37,7 @@ def ties_of(project: Parts, faults: Gathering) -> Ties:
             faults.faults.append(f"{must_not(own, 'lags to or from the end of the project')}")
         elif project.start in (lag.before, lag.after):
             with faults.kept():
-                limit(found, project, lag)
+                add_limit(found, project, lag)
         else:
             links += [Lag(lag.before, lag.after, lag.at_least)] if lag.at_least is not None else []
             if lag.at_most is not None:
@@ -48,9 +49,12 @@ def ties_of(project: Parts, faults: Gathering) -> Ties:
 
 def add_links(found: Ties, links: Iterable[Lag]) -> None:
     """Where some close a circle, one after the other."""
+    def above(activity: int) -> Iterator[int]:
+        return (one.before.activity.number for one in found.links.get(activity, ()))
+
     has_circle = is_circular(links)
     for lag in links:
-        if has_circle and leads(found, lag.after.activity.number, lag.before.activity.number):
+        if has_circle and leads(above, lag.after.activity.number, lag.before.activity.number):
             most = Lag(lag.after, lag.before, None, negative(lag.at_least))
             found.most.setdefault(lag.before.activity.number, []).append(most)
         else:
@@ -61,7 +65,7 @@ def must_not(point: Point, what: str) -> BadInput:
     return BadInput(f"activity '{short(point.activity.name)}': MSPDI has no {what}")
 
 
-def limit(found: Ties, project: Parts, lag: Lag) -> None:
+def add_limit(found: Ties, project: Parts, lag: Lag) -> None:
     """A lag from the start of the project, or to it."""
     if lag.after == project.start:
         lag = Lag(project.start, lag.before, negative(lag.at_most), negative(lag.at_least))
@@ -99,17 +103,7 @@ def is_circular(links: Iterable[Lag]) -> bool:
     return False
 
 
-def leads(found: Ties, first: int, last: int) -> bool:
-    """Whether links lead from one activity to another."""
-    seen, open_ones = {last}, [last]
-    while open_ones and first not in seen:
-        above = {one.before.activity.number for one in found.links.get(open_ones.pop(), [])} - seen
-        seen |= above
-        open_ones += above
-    return first in seen
-
-
-def entries(project: Parts, activity: Activity, lags: Iterable[Lag], minutes: int) -> str:
+def field_text(project: Parts, activity: Activity, lags: Iterable[Lag], minutes: int) -> str:
     """What the field of a task holds."""
     found = []
     for lag in lags:

@@ -14,7 +14,7 @@ from ..model import Activity, Parts
 from .xml_tree import text_of
 
 if TYPE_CHECKING:
-    from .mspdi import Document
+    from .mspdi import MspdiDocument
 
 KINDS = "01234567"  # of constraints; as soon as possible (0) and as late as possible (1) say nothing of when
 
@@ -37,7 +37,7 @@ def limit_of(kind: str, calendar: Calendar, at: datetime.datetime) -> Limit | No
             "5": Limit(False, None, latest), "6": Limit(True, soonest, None), "7": Limit(True, None, end)}.get(kind)
 
 
-def due_dates(document: "Document") -> dict[str, int]:
+def due_dates(document: "MspdiDocument") -> dict[str, int]:
     """When each task with a deadline is due. One of a summary is one of each task below it."""
     found: dict[str, int] = {}
     for uid, task in document.outline.all.items():
@@ -53,7 +53,7 @@ def due_dates(document: "Document") -> dict[str, int]:
 
 @dataclass
 class Constraints:
-    document: "Document"
+    document: "MspdiDocument"
     project: Parts
     own: Mapping[str, Activity]
     stays: dict[str, int] = field(default_factory=dict)  # the start of each task that stays where it is

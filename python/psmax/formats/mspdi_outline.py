@@ -1,5 +1,4 @@
 """The tasks of an MSPDI file in their outline: which have work of their own, and which are summaries of those below."""
-from collections import Counter
 from collections.abc import Iterable
 from dataclasses import dataclass, field
 from functools import cached_property
@@ -9,6 +8,7 @@ from ..errors import BadInput
 from ..letters import printable, short
 from ..model import Activity, Group, Parts
 from ..project import MOST_ACTIVITIES
+from .tool_file import unique_names
 from .xml_tree import text_of
 
 WHOLE = "0"  # the UID of the task that stands for the whole project
@@ -78,7 +78,7 @@ class Outline:
     @cached_property
     def tasks(self) -> dict[str, Element]:
         """What becomes an activity."""
-        return {uid: task for uid, task in self.all.items() if not is_summary(task, uid)}
+        return {uid: task for uid, task in self.all.items() if not is_summary_task(task, uid)}
 
     @cached_property
     def all(self) -> dict[str, Element]:
@@ -91,7 +91,7 @@ class Outline:
                 self.passed_over.add(uid)
             else:
                 found[uid] = task
-        count = sum(not is_summary(task, uid) for uid, task in found.items())
+        count = sum(not is_summary_task(task, uid) for uid, task in found.items())
         if count > MOST_ACTIVITIES:
             raise BadInput(f"{count:,} tasks, and a project has at most {MOST_ACTIVITIES:,}")
         return found
@@ -102,9 +102,9 @@ class Outline:
         found: dict[str, list[str]] = {}
         open_ones: list[str] = []
         for uid, task in self.all.items():
-            while open_ones and level(self.all[open_ones[-1]]) >= level(task):
+            while open_ones and task_level(self.all[open_ones[-1]]) >= task_level(task):
                 open_ones.pop()
-            if is_summary(task, uid):
+            if is_summary_task(task, uid):
                 found[uid] = []
                 open_ones.append(uid)
             else:
@@ -126,10 +126,8 @@ class Outline:
 
     @cached_property
     def names(self) -> dict[str, str]:
-        """Those of the same name have their UIDs too."""
-        told = {uid: printable(text_of(task, "Name") or f"task {uid}") for uid, task in self.tasks.items()}
-        count = Counter(told.values())
-        return {uid: name if count[name] == 1 else f"{name} ({printable(uid)})" for uid, name in told.items()}
+        names = {uid: printable(text_of(task, "Name") or f"task {uid}") for uid, task in self.tasks.items()}
+        return unique_names(names, printable)
 
     def called(self, uid: str) -> str:
         """A task as faults call it."""
@@ -139,11 +137,11 @@ class Outline:
         return f"summary '{short(name)}'" if name else f"task {short(uid) or 'without a UID'}"
 
 
-def is_summary(task: Element, uid: str) -> bool:
+def is_summary_task(task: Element, uid: str) -> bool:
     return is_set(task, "Summary") or uid == WHOLE
 
 
-def level(task: Element) -> int:
+def task_level(task: Element) -> int:
     """How deep a task stands: by its outline level, or else by the parts of its number."""
     text, number = text_of(task, "OutlineLevel"), text_of(task, "OutlineNumber") or text_of(task, "WBS")
     if text is not None and text.isdecimal() and len(text) < 6:

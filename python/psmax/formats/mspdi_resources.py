@@ -1,7 +1,7 @@
 """The resources of an MSPDI file that do work, when they are there, and what each task needs of them."""
 import datetime
 import re
-from collections.abc import Iterable
+from collections.abc import Iterable, Mapping
 from dataclasses import dataclass, field
 from fractions import Fraction
 from typing import TYPE_CHECKING
@@ -17,7 +17,7 @@ from .mspdi_calendar import by_uid, is_like_project, of_resource
 from .xml_tree import text_of
 
 if TYPE_CHECKING:
-    from .mspdi import Document
+    from .mspdi import MspdiDocument
 
 PERCENT = 100
 LAST_YEAR = 2049  # what is available until its end is available for ever
@@ -25,11 +25,12 @@ MINUTE = datetime.timedelta(minutes=1)
 # From when until when there are so many units.
 Stretch = tuple[datetime.datetime | None, datetime.datetime | None, Fraction]
 Away = tuple[int, int | None, Fraction]  # from which time until which how many units lack
+Want = tuple[str, str, Fraction]  # an activity, a resource and how many units
 
 
 @dataclass
-class Needs:
-    document: "Document"
+class TaskNeeds:
+    document: "MspdiDocument"
     of: dict[str, dict[Resource, int]] = field(default_factory=dict)
 
     def fill(self, project: Parts) -> None:
@@ -38,21 +39,12 @@ class Needs:
         if len(found) > MOST_RESOURCES:
             raise BadInput(f"{len(found)} resources, and a project has at most {MOST_RESOURCES}")
         stretches = {uid: self.availability(one) for uid, one in found.items()}
-        units = {uid: max(count for *_, count in stretches[uid]) for uid in found}
-        wanted = self.assigned({*units})
+        wanted = self.assigned({*found})
         counts = [count for one in stretches.values() for *_, count in one] + [count for *_, count in wanted]
         scale = 1 if all(one.denominator == 1 for one in counts) else PERCENT
-        own: dict[str, Resource] = {}
-        for uid, one in found.items():
-            name = printable(text_of(one, "Name") or f"resource {uid}")
-            name = name if all(name != other.name for other in project.resources) else f"{name} ({printable(uid)})"
-            own[uid] = project.resource(name, round(units[uid] * scale))
-            project.hours |= {own[uid]: self.document.crews[uid]} if uid in self.document.crews else {}
-            for begins, ends, away in absences(stretches[uid], units[uid], self.document.calendar):
-                project.absence(own[uid], begins, ends, round(away * scale))
-        for task, resource, count in wanted:
-            row = self.of.setdefault(task, {})
-            row[own[resource]] = row.get(own[resource], 0) + round(count * scale)
+        names = {uid: printable(text_of(one, "Name") or f"resource {uid}") for uid, one in found.items()}
+        own = add_resources(project, names, stretches, scale, self.document.calendar, self.document.crews)
+        self.of = needs_of(own, wanted, scale)
 
     def availability(self, resource: Element) -> list[Stretch]:
         """How many units there are when; between the periods there are none."""
@@ -63,10 +55,10 @@ class Needs:
             ends = None if ends is None or ends.year >= LAST_YEAR else ends + MINUTE * (ends.minute == 59)
             if begins is not None and ends is not None and ends <= begins:
                 raise BadInput(f"{called}: AvailableTo is before AvailableFrom")
-            found.append((begins, ends, units_of(one, "AvailableUnits", called)))
-        return found or [(None, None, units_of(resource, "MaxUnits", called))]
+            found.append((begins, ends, read_units(one, "AvailableUnits", called)))
+        return found or [(None, None, read_units(resource, "MaxUnits", called))]
 
-    def assigned(self, resources: set[str]) -> list[tuple[str, str, Fraction]]:
+    def assigned(self, resources: set[str]) -> list[Want]:
         """The task, the resource and the units of each assignment of a resource that does work to a task that is
         active."""
         document, found = self.document, []
@@ -76,8 +68,31 @@ class Needs:
                 with document.kept():
                     if task not in document.outline.tasks:
                         raise BadInput(f"{document.outline.called(task)}: an assignment, and no work of its own")
-                    found.append((task, resource, units_of(one, "Units", document.outline.called(task))))
+                    found.append((task, resource, read_units(one, "Units", document.outline.called(task))))
         return found
+
+
+def add_resources(project: Parts, names: Mapping[str, str], there: Mapping[str, list[Stretch]], scale: int,
+                  calendar: Calendar, hours: Mapping[str, Hours]) -> dict[str, Resource]:
+    """By their IDs, in so many parts of a unit, with their absences and hours."""
+    own: dict[str, Resource] = {}
+    for uid, name in names.items():
+        name = name if all(name != other.name for other in project.resources) else f"{name} ({printable(uid)})"
+        most = max((count for *_, count in there[uid]), default=Fraction(0))
+        own[uid] = project.resource(name, round(most * scale))
+        project.hours |= {own[uid]: hours[uid]} if uid in hours else {}
+        for begins, ends, away in absences_from(there[uid], most, calendar):
+            project.absence(own[uid], begins, ends, round(away * scale))
+    return own
+
+
+def needs_of(own: Mapping[str, Resource], wanted: Iterable[Want], scale: int) -> dict[str, dict[Resource, int]]:
+    """By the IDs of activities."""
+    found: dict[str, dict[Resource, int]] = {}
+    for task, resource, count in wanted:
+        row = found.setdefault(task, {})
+        row[own[resource]] = row.get(own[resource], 0) + round(count * scale)
+    return found
 
 
 def work_resources(root: Element) -> dict[str, Element]:
@@ -87,7 +102,7 @@ def work_resources(root: Element) -> dict[str, Element]:
     return {uid: one for uid, one in named.items() if uid not in ("0", "")}
 
 
-def crew_hours(document: "Document") -> dict[str, Hours]:
+def hours_of_resources(document: "MspdiDocument") -> dict[str, Hours]:
     """Of each resource whose calendar has other hours than the project's."""
     found: dict[str, Hours] = {}
     for uid, one in work_resources(document.root).items():
@@ -95,14 +110,14 @@ def crew_hours(document: "Document") -> dict[str, Hours]:
             calendar = by_uid(document.root, text_of(one, "CalendarUID"))
             if calendar is not None and not is_like_project(document.root, text_of(calendar, "UID")):
                 try:
-                    found[uid] = hours_in(document, calendar)
+                    found[uid] = own_hours(document, calendar)
                 except BadInput as fault:
                     raise BadInput(f"resource '{short(text_of(one, 'Name') or '')}' has days or hours of its own: "
                                    f"{fault}") from None
     return found
 
 
-def hours_in(document: "Document", calendar: Element) -> Hours:
+def own_hours(document: "MspdiDocument", calendar: Element) -> Hours:
     found = of_week(of_resource(document.root, calendar))
     if found is None:
         raise BadInput("its days have different hours")
@@ -111,14 +126,14 @@ def hours_in(document: "Document", calendar: Element) -> Hours:
     return found
 
 
-def units_of(one: Element, name: str, called: str) -> Fraction:
+def read_units(one: Element, name: str, called: str) -> Fraction:
     text = text_of(one, name) or "1"
     if not re.fullmatch(r"[0-9]{1,6}(\.[0-9]{1,6})?", text):
         raise BadInput(f"{called}: {name} is no number of units: '{short(text)}'")
     return Fraction(text)
 
 
-def absences(stretches: Iterable[Stretch], most: Fraction, calendar: Calendar) -> list[Away]:
+def absences_from(stretches: Iterable[Stretch], most: Fraction, calendar: Calendar) -> list[Away]:
     """When how many units lack of the most that there ever are. What lacks for a part of a period lacks for all of
     it."""
     moments = sorted({moment for begins, ends, _ in stretches for moment in (begins, ends) if moment is not None})

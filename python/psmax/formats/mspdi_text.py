@@ -11,12 +11,12 @@ from ..letters import short
 from ..model import Absence, Activity, Group, Lag, Parts, Resource
 from ..project import least_starts
 from ..work_time import WorkTime
-from .mspdi import ENDS, SPACE, TENTHS, Document
+from .mspdi import ENDS, SPACE, TENTHS, MspdiDocument
 from .mspdi_calendar import BASE, add_calendar, add_resource_calendar
-from .mspdi_lags import FIELD, Ties, entries, note, ties_of
+from .mspdi_lags import FIELD, Ties, field_text, note, ties_of
 from .mspdi_outline import OutlineRow, add_field, add_fields, outline_of
-from .tool_file import Dates, Gathering, dates_of
-from .xml_tree import parsed, put, text_of, written
+from .tool_file import Dates, Gathering, dates_of, left_of
+from .xml_tree import parse_xml, put_child, text_of, written
 
 # Of what stands in a task; names between them are none that come before one of these.
 ORDER = ("Start", "Finish", "Duration", "ManualStart", "DurationFormat", "Work", "Milestone", "Summary", "PercentComplete",
@@ -36,9 +36,9 @@ def write(project: Parts) -> str:
     dates, faults = dates_of(project.calendar, "MSPDI"), Gathering()
     root, ties = Element("Project", {"xmlns": SPACE}), ties_of(project, faults)
     parts = read_shift(dates.time.shift or "")
-    texts = {"Name": project.name, "Title": project.name, "StartDate": stamp(dates.begins(0)), "CalendarUID": BASE,
+    texts = {"Name": project.name, "Title": project.name, "StartDate": stamp_text(dates.begins(0)), "CalendarUID": BASE,
              "MinutesPerDay": f"{sum(ends - begins for begins, ends in parts)}",
-             "StatusDate": "" if project.status is None else stamp(dates.begins(project.status))}
+             "StatusDate": "" if project.status is None else stamp_text(dates.begins(project.status))}
     add(root, {name: text for name, text in texts.items() if text})
     fields = ([FIELD] if ties.most else []) + (["ID"] if project.ids else [])
     if fields:
@@ -50,7 +50,7 @@ def write(project: Parts) -> str:
             add_row(SubElement(tasks, "Task"), row, project, ties, dates)
             put_times(tasks[-1], row, times)
     faults.tell()
-    add_resources(root, project, dates)
+    add_resource_elements(root, project, dates)
     return written(root)
 
 
@@ -66,15 +66,15 @@ def soonest(project: Parts, dates: Dates) -> list[tuple[str, str]]:
     numbers = project.numbers()
     starts = least_starts(numbers) or [0] * (numbers.end + 1)
     pairs = [(start, start + length) for start, length in zip(starts[1:-1], numbers.durations[1:-1])]
-    return [(stamp(dates.begins(start)), stamp(dates.ended(end) if start < end else dates.begins(start)))
+    return [(stamp_text(dates.begins(start)), stamp_text(dates.ended(end) if start < end else dates.begins(start)))
             for start, end in pairs]
 
 
 def put_times(task: Element, row: OutlineRow, times: Sequence[tuple[str, str]]) -> None:
     """A summary goes from the first start below it to the last end."""
     own = [times[row.one.number - 1]] if isinstance(row.one, Activity) else [times[i - 1] for i in row.one.activities]
-    put(task, "Start", min(begins for begins, _ in own), ORDER)
-    put(task, "Finish", max(ends for _, ends in own), ORDER)
+    put_child(task, "Start", min(begins for begins, _ in own), ORDER)
+    put_child(task, "Finish", max(ends for _, ends in own), ORDER)
 
 
 def add(parent: Element, texts: Mapping[str, str]) -> None:
@@ -82,11 +82,11 @@ def add(parent: Element, texts: Mapping[str, str]) -> None:
         SubElement(parent, name).text = text
 
 
-def stamp(moment: datetime.datetime) -> str:
+def stamp_text(moment: datetime.datetime) -> str:
     return moment.isoformat("T", "seconds")
 
 
-def length(minutes: int) -> str:
+def duration_text(minutes: int) -> str:
     return f"PT{minutes // 60}H{minutes % 60}M0S"
 
 
@@ -103,35 +103,34 @@ def add_row(task: Element, row: OutlineRow, project: Parts, ties: Ties, dates: D
     if isinstance(one, Group):
         add(task, {"Summary": "1"})
         return
-    add(task, {"Duration": length(minutes), "DurationFormat": DAYS, "Milestone": f"{int(minutes == 0)}",
+    add(task, {"Duration": duration_text(minutes), "DurationFormat": DAYS, "Milestone": f"{int(minutes == 0)}",
                "Summary": "0"})
-    add(task, done(project, one, dates))
+    add(task, progress_texts(project, one, dates))
     for lag in ties.limits.get(number, []):
         add(task, constraint(lag, dates))
     if one.due is not None:
-        add(task, {"Deadline": stamp(dates.ended(one.due))})
+        add(task, {"Deadline": stamp_text(dates.ended(one.due))})
     most = ties.most.get(number, [])
     if most:
         add(task, {"Notes": note(project, most, dates.minutes)})
     for lag in ties.links.get(number, []):
-        add(SubElement(task, "PredecessorLink"), link(lag, dates.minutes))
+        add(SubElement(task, "PredecessorLink"), link_texts(lag, dates.minutes))
     if most:
-        add_field(task, FIELD, entries(project, one, most, dates.minutes))
+        add_field(task, FIELD, field_text(project, one, most, dates.minutes))
     if number in project.ids:
         add_field(task, "ID", project.ids[number])
 
 
-def done(project: Parts, activity: Activity, dates: Dates) -> dict[str, str]:
+def progress_texts(project: Parts, activity: Activity, dates: Dates) -> dict[str, str]:
     """How far an activity has come."""
     begun, now = project.started.get(activity.number), project.status or 0
     if begun is None:
         return {}
-    ends = begun + activity.duration
-    left = max(0, ends - now)
+    ends, left = begun + activity.duration, left_of(project, activity)
     share = PERCENT if not left else min(PERCENT - 1, PERCENT * (now - begun) // activity.duration)
-    texts = {"PercentComplete": f"{share}", "ActualStart": stamp(dates.begins(begun))}
-    texts |= {} if left else {"ActualFinish": stamp(dates.ended(ends) if activity.duration else dates.begins(begun))}
-    return texts | {"RemainingDuration": length(left * dates.minutes)}
+    texts = {"PercentComplete": f"{share}", "ActualStart": stamp_text(dates.begins(begun))}
+    texts |= {} if left else {"ActualFinish": stamp_text(dates.ended(ends) if activity.duration else dates.begins(begun))}
+    return texts | {"RemainingDuration": duration_text(left * dates.minutes)}
 
 
 def constraint(lag: Lag, dates: Dates) -> dict[str, str]:
@@ -142,16 +141,16 @@ def constraint(lag: Lag, dates: Dates) -> dict[str, str]:
     if time is None or time < lag.after.is_end:
         raise BadInput(f"activity '{short(lag.after.activity.name)}': MSPDI has no date before the project starts")
     at = dates.ended(time) if lag.after.is_end else dates.begins(time)
-    return {"ConstraintType": kind, "ConstraintDate": stamp(at)}
+    return {"ConstraintType": kind, "ConstraintDate": stamp_text(at)}
 
 
-def link(lag: Lag, minutes: int) -> dict[str, str]:
+def link_texts(lag: Lag, minutes: int) -> dict[str, str]:
     kind = next(kind for kind, ends in ENDS.items() if ends == (lag.before.is_end, lag.after.is_end))
     return {"PredecessorUID": f"{lag.before.activity.number}", "Type": kind,
             "LinkLag": f"{(lag.at_least or 0) * minutes * TENTHS}", "LagFormat": DAYS}
 
 
-def add_resources(root: Element, project: Parts, dates: Dates) -> None:
+def add_resource_elements(root: Element, project: Parts, dates: Dates) -> None:
     """With what is there when, and what each activity needs of them."""
     resources, assignments = SubElement(root, "Resources"), SubElement(root, "Assignments")
     for one in project.resources:
@@ -173,16 +172,16 @@ def add_availability(resource: Element, one: Resource, absences: Sequence[Absenc
     for begins, ends in zip([0, *times], [*times, None]) if absences else ():
         away = sum(one.units for one in absences if one.begins <= begins and (one.ends is None or begins < one.ends))
         add(SubElement(periods, "AvailabilityPeriod"), {
-            "AvailableFrom": stamp(dates.begins(begins)) if begins else EVER[0],
-            "AvailableTo": EVER[1] if ends is None else stamp(dates.begins(ends)),
+            "AvailableFrom": stamp_text(dates.begins(begins)) if begins else EVER[0],
+            "AvailableTo": EVER[1] if ends is None else stamp_text(dates.begins(ends)),
             "AvailableUnits": f"{one.capacity - away}"})
 
 
-def replanned(text: str, schedule: Schedule) -> str:
+def replanned(data: bytes, schedule: Schedule) -> bytes:
     """The same file with the starts of a schedule of it: its tasks start then, by a delay that levelling has. All else
     stays. A summary goes from the first start below it to the last end."""
-    root = parsed(text)
-    document = Document(root)
+    root = parse_xml(data.decode("utf-8-sig", "replace"))
+    document = MspdiDocument(root)
     numbers, starts = schedule.question.numbers, schedule.starts
     times: dict[str, tuple[datetime.datetime, datetime.datetime]] = {}
     for number, (uid, task) in enumerate(document.tasks.items(), 1):
@@ -193,19 +192,19 @@ def replanned(text: str, schedule: Schedule) -> str:
             soonest = max([0, *(starts[arc.tail] + arc.lag for arc in numbers.arcs if arc.head == number)])
             delay = document.calendar.begins(starts[number]) - document.calendar.begins(min(soonest, starts[number]))
             tenths = int(delay.total_seconds()) // 60 * TENTHS
-            for name, told in (("Start", stamp(begins)), ("Finish", stamp(ends)), ("LevelingDelay", f"{tenths}"),
+            for name, told in (("Start", stamp_text(begins)), ("Finish", stamp_text(ends)), ("LevelingDelay", f"{tenths}"),
                                ("LevelingDelayFormat", ELAPSED_DAYS)):
-                put(task, name, told, ORDER)
+                put_child(task, name, told, ORDER)
     around(root, document, times)
-    return written(root)
+    return written(root).encode()
 
 
-def around(root: Element, document: Document, times: dict[str, tuple[datetime.datetime, datetime.datetime]]) -> None:
+def around(root: Element, document: MspdiDocument, times: dict[str, tuple[datetime.datetime, datetime.datetime]]) -> None:
     """The times of summaries, from those of what is below them, and of the project."""
     for uid, below in document.outline.below.items():
         inner = [times[one] for one in below]
         if inner:
-            put(document.outline.all[uid], "Start", stamp(min(inner)[0]), ORDER)
-            put(document.outline.all[uid], "Finish", stamp(max(ends for _, ends in inner)), ORDER)
+            put_child(document.outline.all[uid], "Start", stamp_text(min(inner)[0]), ORDER)
+            put_child(document.outline.all[uid], "Finish", stamp_text(max(ends for _, ends in inner)), ORDER)
     if times and root.find("FinishDate") is not None:
-        put(root, "FinishDate", stamp(max(ends for _, ends in times.values())), ("FinishDate",))
+        put_child(root, "FinishDate", stamp_text(max(ends for _, ends in times.values())), ("FinishDate",))

@@ -37,7 +37,7 @@ class Jobs:
 
 def jobs_of(project: Parts, name: str) -> tuple[Numbers, Jobs]:
     """The project as numbers, and as a text of this format has it. A project with other lags has no such text."""
-    numbers = plain(project, name)
+    numbers = plain_numbers(project, name)
     last, successors = numbers.end, [[] for _ in range(numbers.end + 1)]  # type: tuple[int, list[list[int]]]
     for tail, head, lag in numbers.arcs:
         is_implied = tail == 0 and lag == 0 or head == last and lag == numbers.durations[tail]
@@ -54,7 +54,7 @@ def jobs_of(project: Parts, name: str) -> tuple[Numbers, Jobs]:
     return numbers, Jobs([*numbers.durations], [[*row] for row in numbers.demands], texts)
 
 
-def plain(project: Parts, name: str) -> Numbers:
+def plain_numbers(project: Parts, name: str) -> Numbers:
     """The project as numbers, if it has nothing but activities, resources and lags."""
     numbers = project.numbers()
     if numbers.absences or numbers.due:

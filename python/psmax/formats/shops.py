@@ -7,7 +7,7 @@ from ..model import Activity, Parts
 from ..project import MOST_ACTIVITIES, MOST_RESOURCES
 from ..project import Numbers
 from .numbers import Reader
-from .precedence import plain
+from .precedence import plain_numbers
 
 JOB_SHOP = "a job shop"
 
@@ -26,7 +26,7 @@ def read_sizes(numbers: Reader) -> tuple[int, int]:
     return jobs, numbers.take("the number of machines", 1, min(MOST_RESOURCES, MOST_ACTIVITIES // jobs))
 
 
-def fill(project: Parts, shop: Shop, is_open: bool = False) -> None:
+def fill_from_shop(project: Parts, shop: Shop, is_open: bool = False) -> None:
     machines = [project.resource(f"machine {number}", 1) for number in range(1, max(map(len, shop)) + 1)]
     owners = [project.resource(f"job {number}", 1) for number in range(1, len(shop) + 1)] if is_open else []
     for job, row in enumerate(shop, 1):
@@ -41,7 +41,7 @@ def fill(project: Parts, shop: Shop, is_open: bool = False) -> None:
 
 def job_shop_of(project: Parts) -> Shop:
     """The project as a job shop, in which each job has an operation on each machine."""
-    numbers = plain(project, JOB_SHOP)
+    numbers = plain_numbers(project, JOB_SHOP)
     after: dict[int, int] = {}
     for tail, head, lag in numbers.arcs:
         if lag != numbers.durations[tail] or not 0 < tail < numbers.end or not 0 < head < numbers.end or tail in after:
@@ -49,7 +49,7 @@ def job_shop_of(project: Parts) -> Shop:
         after[tail] = head
     if len({*after.values()}) != len(after):
         raise no_shop("has one lag at most to an operation")
-    rows = [chain(first, after) for first in range(1, numbers.end) if first not in after.values()]
+    rows = [follow_job(first, after) for first in range(1, numbers.end) if first not in after.values()]
     shop = [[Operation(machine_of(numbers, one), numbers.durations[one]) for one in row] for row in rows]
     machines = [*range(len(numbers.capacities))]
     is_whole = sum(map(len, rows)) == numbers.end - 1 > 0
@@ -58,7 +58,7 @@ def job_shop_of(project: Parts) -> Shop:
     return shop
 
 
-def chain(first: int, after: dict[int, int]) -> list[int]:
+def follow_job(first: int, after: dict[int, int]) -> list[int]:
     row = [first]
     while row[-1] in after:
         row.append(after[row[-1]])
@@ -76,7 +76,7 @@ def machine_of(numbers: Numbers, activity: int) -> int:
 def open_shop_of(project: Parts) -> Shop:
     """The project as an open shop, whose first resources are the machines and whose others are the jobs. Each job has
     an operation on each machine."""
-    numbers = plain(project, "an open shop")
+    numbers = plain_numbers(project, "an open shop")
     resources = len(numbers.capacities)
     for machines in range(1, resources):
         found = {(job - machines, machine) for machine, job in pairs(numbers, machines)}

@@ -5,7 +5,7 @@ from dataclasses import dataclass
 from ..errors import BadInput
 from ..model import Parts
 from .numbers import Reader, lines_of
-from .shops import Operation, Shop, fill, job_shop_of, open_shop_of, read_sizes
+from .shops import Operation, Shop, fill_from_shop, job_shop_of, open_shop_of, read_sizes
 
 HEAD = re.compile(r"\s*(Nb|number) of jobs\s*,", re.I)
 
@@ -34,11 +34,11 @@ def is_like_open_shop(text: str) -> bool:
 
 
 def read_job_shop(text: str, project: Parts) -> None:
-    fill(project, read(text))
+    fill_from_shop(project, read(text))
 
 
 def read_open_shop(text: str, project: Parts) -> None:
-    fill(project, read(text), is_open=True)
+    fill_from_shop(project, read(text), is_open=True)
 
 
 def read(text: str) -> Shop:
@@ -58,14 +58,14 @@ def read(text: str) -> Shop:
 
 
 def write_job_shop(project: Parts) -> str:
-    return text_of(job_shop_of(project), JOB_SHOP)
+    return shop_text(job_shop_of(project), JOB_SHOP)
 
 
 def write_open_shop(project: Parts) -> str:
-    return text_of(open_shop_of(project), OPEN_SHOP)
+    return shop_text(open_shop_of(project), OPEN_SHOP)
 
 
-def text_of(shop: Shop, layout: Layout) -> str:
+def shop_text(shop: Shop, layout: Layout) -> str:
     """The text of a shop that no seed is known of."""
     lines = [layout.head, f" {len(shop)} {len(shop[0])} 0 0 0 0", layout.times]
     lines += [" ".join(f"{step.time:2}" for step in row) for row in shop]

@@ -1,20 +1,23 @@
 """What the files of planning tools share: faults that are told at once, links, and the hours that they need."""
 import datetime
-from collections.abc import Callable, Iterator
+from collections import Counter
+from collections.abc import Callable, Iterable, Iterator, Mapping
 from contextlib import contextmanager
 from dataclasses import dataclass, field, replace
 from functools import cached_property
+from math import gcd
 
 from ..calendars import MINUTES, Calendar
 from ..crew_hours import SPANS, Stretch, hour_windows
 from ..dates import read_shift
 from ..errors import BadInput
-from ..letters import at_most
-from ..model import Activity, Lag, Parts
+from ..letters import at_most, short
+from ..model import Activity, Lag, Parts, Point
 from ..work_time import WorkTime, minutes_of
 
 ALL_DAY, USUAL = "00:00-24:00", "08:00-12:00,13:00-17:00"  # where a project says no hours
 HALF = "4 hours"  # of a usual day
+FIRST_YEAR, LAST_YEAR = 1900, 2200  # of dates
 
 
 @dataclass
@@ -43,6 +46,11 @@ class Link:
     from_end: bool
     to_end: bool
     minutes: int
+
+    def points(self, project: Parts, own: Mapping[str, Activity]) -> tuple[Point, Point]:
+        """Of these activities; the start of the project where the first is none of them."""
+        before = Point(own[self.before], self.from_end) if self.before in own else project.start
+        return before, Point(own[self.after], self.to_end)
 
 
 @dataclass(frozen=True)
@@ -82,6 +90,37 @@ def dates_of(time: WorkTime | None, tool: str) -> Dates:
     return found
 
 
+def longest_period(first: datetime.datetime, shift: str, marks: Iterable[int], lengths: Iterable[int]) -> int:
+    """How many minutes: the most that divides these lengths and the hours of work, in which a period begins at these
+    minutes of the day and at that of the first moment."""
+    times = {*marks, 60 * first.hour + first.minute}
+    return gcd(*lengths, *(length for begins, ends in read_shift(shift)
+                           for length in (ends - begins, *(time - begins for time in times if begins < time < ends))))
+
+
+def unique_names(names: Mapping[str, str], code: Callable[[str], str]) -> dict[str, str]:
+    """The names, by IDs; those of the same name have their codes too."""
+    count = Counter(names.values())
+    return {uid: name if count[name] == 1 else f"{name} ({code(uid)})" for uid, name in names.items()}
+
+
+def checked_moment(text: str, read: Callable[[str], datetime.datetime], example: str, called: str) -> datetime.datetime:
+    """What a date says, of which a fault tells where it stands."""
+    try:
+        found = read(text)
+    except ValueError:
+        raise BadInput(f"{called} is no date such as {example}: '{short(text)}'") from None
+    if not FIRST_YEAR <= found.year <= LAST_YEAR:
+        raise BadInput(f"{called} is beyond the years {FIRST_YEAR} to {LAST_YEAR}: '{short(text)}'")
+    return found
+
+
+def left_of(project: Parts, activity: Activity) -> int:
+    """How many periods of an activity are left at the status date."""
+    begun = project.started.get(activity.number)
+    return activity.duration if begun is None else max(0, begun + activity.duration - (project.status or 0))
+
+
 def is_said(project: Parts, lag: Lag) -> bool:
     """Whether a lag from the start of the project follows from the real start of what has started, or from the status
     date."""
@@ -92,7 +131,7 @@ def is_said(project: Parts, lag: Lag) -> bool:
     return (lag.at_least is None or lag.at_least <= time) and (lag.at_most is None or time <= lag.at_most)
 
 
-def must_fit(project: Parts, faults: Gathering, called: Callable[[Activity], str]) -> None:
+def must_fit_hours(project: Parts, faults: Gathering, called: Callable[[Activity], str]) -> None:
     """What needs resources with hours of their own goes on without a break."""
     crews = project.crews()
     if crews is None:

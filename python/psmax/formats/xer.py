@@ -1,28 +1,28 @@
 """A .xer file of Primavera P6 as a project."""
 from ..errors import BadInput
 from ..model import Parts
-from .tool_file import must_fit
-from .xer_document import Document, called, code
+from .tool_file import must_fit_hours
+from .xer_document import XerDocument, called, code
 from .xer_limits import Actuals
-from .xer_resources import Needs
+from .xer_resources import ActivityNeeds
 from .xer_tables import read_tables
 
 
 def read(text: str, project: Parts) -> None:
-    document = Document(read_tables(text))
+    document = XerDocument(read_tables(text))
     with document.kept():
-        fill(document, project)
+        fill_from_document(document, project)
     document.tell()
 
 
-def fill(document: Document, project: Parts) -> None:
+def fill_from_document(document: XerDocument, project: Parts) -> None:
     if not document.activities:
         raise BadInput("the project has no activities")
     progress = Actuals(document)
     project.name, project.calendar = document.title, progress.work_time
     with document.kept():
         document.must_count_lags()
-    needs = Needs(document, progress.calendar, progress.crews)
+    needs = ActivityNeeds(document, progress.calendar, progress.crews)
     with document.kept():
         needs.fill(project)
     due = progress.due_dates()
@@ -32,4 +32,4 @@ def fill(document: Document, project: Parts) -> None:
     progress.fill(project)
     project.groups = document.groups()
     rows = dict(enumerate(document.activities.values(), 1))
-    must_fit(project, document, lambda activity: called(rows[activity.number]))
+    must_fit_hours(project, document, lambda activity: called(rows[activity.number]))

@@ -7,11 +7,10 @@ from collections.abc import Collection, Iterator, Mapping, Sequence
 from dataclasses import dataclass
 
 from ..crew_hours import Span
-from ..dates import read_shift, read_workdays
+from ..dates import MIDNIGHT, SHORT_DAYS, clock_text, day_ranges, read_shift, read_workdays, span_text
 from ..errors import BadInput
 from ..letters import short
-from .mspdi_calendar import in_ranges
-from .xer_tables import Row, cell
+from .xer_tables import Row, cell_of
 
 ENTRY = re.compile(r"\(\d\|\|(\w+)\(([^()]*)\)\(|\)\)")
 HOURS = re.compile(r"(\d\d?):(\d\d)")
@@ -54,21 +53,21 @@ class CalendarHours:
         odd = [day for day, spans in sorted(self.others.items()) if spans]
         if odd:
             raise BadInput(f"{called}: {odd[0]} has hours of its own, and all days with work are alike here")
-        return in_ranges(self.week), shift, tuple(sorted(self.others))
+        return day_ranges(self.week, SHORT_DAYS), shift, tuple(sorted(self.others))
 
 
-def hours_of(calendars: Mapping[str, Row], uid: str, first: datetime.date) -> CalendarHours:
+def read_calendar(calendars: Mapping[str, Row], uid: str, first: datetime.date) -> CalendarHours:
     """The hours from a day on. A calendar has the days off of the one that it is based on too."""
     own = calendars[uid]
-    called = f"calendar '{short(cell(own, 'clndr_name'))}'"
-    lists = read_lists(cell(own, "clndr_data"), called)
-    week = {(int(one.name) - SUNDAY - 1) % WEEK: spans_of(one.inner, called) for one in below(lists, "DaysOfWeek")
+    called = f"calendar '{short(cell_of(own, 'clndr_name'))}'"
+    lists = read_lists(cell_of(own, "clndr_data"), called)
+    week = {(int(one.name) - SUNDAY - 1) % WEEK: spans_of(one.inner, called) for one in entries_below(lists, "DaysOfWeek")
             if re.fullmatch("[1-7]", one.name)}
     others = dict[datetime.date, Spans]()
     for row in base_first(calendars, uid):
-        lists = read_lists(cell(row, "clndr_data"), called)
+        lists = read_lists(cell_of(row, "clndr_data"), called)
         others |= {date_of(one.told.get("d", ""), called): spans_of(one.inner, called)
-                   for one in below(lists, "Exceptions")}
+                   for one in entries_below(lists, "Exceptions")}
     work = {day: spans for day, spans in sorted(week.items()) if spans}
     return CalendarHours(work, {day: spans for day, spans in others.items()
                                 if day >= first and spans != work.get(day.weekday(), ())})
@@ -79,10 +78,10 @@ def base_first(calendars: Mapping[str, Row], uid: str) -> list[Row]:
     found: list[str] = []
     while uid in calendars and uid not in found:
         if len(found) > DEEPEST:
-            name = short(cell(calendars[found[0]], "clndr_name"))
+            name = short(cell_of(calendars[found[0]], "clndr_name"))
             raise BadInput(f"calendar '{name}' is based on more than {DEEPEST} others")
         found.append(uid)
-        uid = cell(calendars[uid], "base_clndr_id")
+        uid = cell_of(calendars[uid], "base_clndr_id")
     return [calendars[one] for one in reversed(found)]
 
 
@@ -108,10 +107,10 @@ def read_lists(text: str, called: str) -> list[Entry]:
     return top
 
 
-def below(lists: list[Entry], name: str) -> Iterator[Entry]:
+def entries_below(lists: list[Entry], name: str) -> Iterator[Entry]:
     """What stands in the lists of this name, however deep these are."""
     for one in lists:
-        yield from one.inner if one.name == name else below(one.inner, name)
+        yield from one.inner if one.name == name else entries_below(one.inner, name)
 
 
 def spans_of(lists: list[Entry], called: str) -> Spans:
@@ -123,7 +122,7 @@ def spans_of(lists: list[Entry], called: str) -> Spans:
             found[-1] = found[-1][0], ends
         else:
             found.append((begins, ends))
-    return tuple(f"{begins // 60:02}:{begins % 60:02}-{ends // 60:02}:{ends % 60:02}" for begins, ends in found)
+    return tuple(map(span_text, found))
 
 
 def span(told: Mapping[str, str], called: str) -> tuple[int, int]:
@@ -158,8 +157,5 @@ def data_of(week: Sequence[Sequence[Span]], free: Collection[datetime.date]) -> 
 
 
 def spans_text(spans: Sequence[Span]) -> str:
-    return "".join(f"(0||{place}(s|{clock(begins)}|f|{clock(ends)})())" for place, (begins, ends) in enumerate(spans))
-
-
-def clock(minutes: int) -> str:
-    return f"{minutes // 60 % 24:02}:{minutes % 60:02}"
+    return "".join(f"(0||{place}(s|{clock_text(begins)}|f|{clock_text(ends % MIDNIGHT)})())"
+                   for place, (begins, ends) in enumerate(spans))

@@ -8,27 +8,27 @@ from ..errors import BadInput
 from ..letters import short
 from ..project import MOST_RESOURCES
 from .mspdi import calendar_of
-from .xer_document import Document, called
-from .xer_tables import Row, cell
+from .xer_document import XerDocument, called
+from .xer_tables import Row, cell_of
 
 MATERIAL, DEPENDS = "RT_Mat", "TT_Rsrc"
 MOST_ASSIGNED = 1_000  # resources of which it is looked whether they are needed
 
 
-def resources_of(document: Document) -> dict[str, Row]:
+def resources_of(document: XerDocument) -> dict[str, Row]:
     """All that are no material."""
-    return {cell(row, "rsrc_id"): row for row in document.tables.get("RSRC", []) if cell(row, "rsrc_type") != MATERIAL}
+    return {cell_of(row, "rsrc_id"): row for row in document.tables.get("RSRC", []) if cell_of(row, "rsrc_type") != MATERIAL}
 
 
-def named(resource: Row) -> str:
-    return f"resource '{short(cell(resource, 'rsrc_name') or cell(resource, 'rsrc_short_name'))}'"
+def call_resource(resource: Row) -> str:
+    return f"resource '{short(cell_of(resource, 'rsrc_name') or cell_of(resource, 'rsrc_short_name'))}'"
 
 
-def activities_of(document: Document, resources: Container[str]) -> dict[str, list[Row]]:
+def activities_needing(document: XerDocument, resources: Container[str]) -> dict[str, list[Row]]:
     """Those that have work left, by the IDs of these resources, which are assigned to them."""
     found: dict[str, list[Row]] = {}
     for row in document.rows("TASKRSRC"):
-        uid, task = cell(row, "rsrc_id"), cell(row, "task_id")
+        uid, task = cell_of(row, "rsrc_id"), cell_of(row, "task_id")
         if uid in resources and document.remaining.get(task):
             found.setdefault(uid, []).append(document.activities[task])
     if len(found) > MOST_ASSIGNED:
@@ -36,29 +36,29 @@ def activities_of(document: Document, resources: Container[str]) -> dict[str, li
     return found
 
 
-def crew_hours(document: Document) -> dict[str, Hours]:
+def hours_of_crews(document: XerDocument) -> dict[str, Hours]:
     """By the resources' IDs."""
     found: dict[str, Hours] = {}
     known = resources_of(document)
-    for uid, rows in activities_of(document, known).items():
-        own = cell(known[uid], "clndr_id")
+    for uid, rows in activities_needing(document, known).items():
+        own = cell_of(known[uid], "clndr_id")
         if own in document.calendars and document.hours(own) != document.hours(document.calendar_id):
             with document.kept():
-                if is_needed_in_its_calendar(rows, named(known[uid])):
-                    found[uid] = hours_in(document, own, named(known[uid]))
+                if is_needed_in_its_calendar(rows, call_resource(known[uid])):
+                    found[uid] = hours_of_calendar(document, own, call_resource(known[uid]))
     return found
 
 
 def is_needed_in_its_calendar(rows: list[Row], name: str) -> bool:
     """Whether these activities work in the calendar of a resource. All that need it have to, then."""
-    others = [one for one in rows if cell(one, "task_type") != DEPENDS]
+    others = [one for one in rows if cell_of(one, "task_type") != DEPENDS]
     if len(others) < len(rows) and others:
         raise BadInput(f"{called(others[0])}: it needs {name} in the activities' calendar, and others that depend "
                        "on it in its own; a resource has one here")
     return not others
 
 
-def hours_in(document: Document, uid: str, name: str) -> Hours:
+def hours_of_calendar(document: XerDocument, uid: str, name: str) -> Hours:
     own, whole = document.hours(uid), document.hours(document.calendar_id)
     begin = f"{name} works in the {document.calendar_name(uid)}"
     is_off = {day for day in {*own.others, *whole.others} if own.others.get(day, own.week.get(day.weekday(), ())) == ()}

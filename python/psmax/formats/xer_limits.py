@@ -10,12 +10,12 @@ from ..errors import BadInput
 from ..letters import short
 from ..model import Activity, Parts
 from ..work_time import WorkTime
-from .mspdi import calendar_of, period_of
+from .mspdi import calendar_of, period_name
 from .mspdi_limits import limit_of
 from .tool_file import Link
-from .xer_crews import crew_hours
-from .xer_document import Document, called
-from .xer_tables import cell, moment
+from .xer_crews import hours_of_crews
+from .xer_document import XerDocument, called
+from .xer_tables import cell_of, read_date
 
 # The kinds of constraints as Microsoft Project counts them. As late as possible says nothing of when.
 KINDS = {"CS_ALAP": "1", "CS_MSO": "2", "CS_MANDSTART": "2", "CS_MEO": "3", "CS_MANDFIN": "3", "CS_MSOA": "4",
@@ -28,12 +28,12 @@ DATES = (("cstr_type", "cstr_date"), ("cstr_type2", "cstr_date2"), (SOONEST, "ex
 class Actuals:
     """Minutes become periods here. What has started touches whole periods; all else is exact."""
 
-    document: Document
+    document: XerDocument
 
     @cached_property
     def crews(self) -> dict[str, Hours]:
         """The resources with hours of their own."""
-        return crew_hours(self.document)
+        return hours_of_crews(self.document)
 
     @cached_property
     def constraints(self) -> dict[str, list[tuple[str, datetime.datetime]]]:
@@ -48,7 +48,7 @@ class Actuals:
     def constraints_of(self, uid: str) -> list[tuple[str, datetime.datetime]]:
         row, found = self.document.activities[uid], list[tuple[str, datetime.datetime]]()
         for kind, date in DATES:
-            at, told = moment(row, date, called(row)), kind if kind == SOONEST else cell(row, kind)
+            at, told = read_date(row, date, called(row)), kind if kind == SOONEST else cell_of(row, kind)
             if told and told not in KINDS:
                 raise BadInput(f"{called(row)}: a constraint of the unknown kind '{short(told)}'")
             if at is not None and told:
@@ -63,7 +63,7 @@ class Actuals:
 
     @cached_property
     def work_time(self) -> WorkTime:
-        return self.document.work(period_of(self.minutes))
+        return self.document.work(period_name(self.minutes))
 
     @cached_property
     def calendar(self) -> Calendar:
@@ -85,11 +85,11 @@ class Actuals:
         if uid not in document.begun or document.is_milestone(uid):
             return left
         if not document.is_complete(uid):
-            if cell(row, "suspend_date"):
+            if cell_of(row, "suspend_date"):
                 document.faults.append(f"{called(row)}: it is suspended, and activities here run without a pause")
             return max(0, self.now - self.start(uid)) + left
         with document.kept():
-            ended = moment(row, "act_end_date", called(row))
+            ended = read_date(row, "act_end_date", called(row))
             if ended is None:
                 raise BadInput(f"{called(row)}: it is complete, and has no act_end_date")
             if ended < document.begun[uid]:
@@ -101,10 +101,10 @@ class Actuals:
         """The project's date by which it must finish, and that of links to other projects. They move nothing in
         Primavera."""
         document, found = self.document, dict[str, int]()
-        whole = moment(document.project, "plan_end_date", "the project")
+        whole = read_date(document.project, "plan_end_date", "the project")
         for uid, row in document.activities.items():
             with document.kept():
-                told = [one for one in (whole, moment(row, "external_late_end_date", called(row))) if one is not None]
+                told = [one for one in (whole, read_date(row, "external_late_end_date", called(row))) if one is not None]
                 time = self.calendar.by(min(told)) if told else None
                 if time is not None and time < 0:
                     raise BadInput(f"{called(row)}: it is due at {min(told)}, before the project starts")
@@ -121,9 +121,7 @@ class Actuals:
                 with document.kept():
                     self.must_be_history(link, own)
             else:
-                before, after = own[link.before], own[link.after]
-                project.lag(before.end if link.from_end else before.start, after.end if link.to_end else after.start,
-                            at_least=link.minutes // self.minutes)
+                project.lag(*link.points(project, own), at_least=link.minutes // self.minutes)
         for uid, activity in own.items():
             if uid in document.begun:
                 project.started[activity.number] = self.start(uid)
@@ -131,7 +129,7 @@ class Actuals:
             elif self.now:
                 project.lag(project.start, activity.start, at_least=self.now)
             row = document.activities[uid]
-            if cell(row, "expect_end_date") and not document.is_complete(uid):
+            if cell_of(row, "expect_end_date") and not document.is_complete(uid):
                 document.faults.append(f"{called(row)}: an expected finish, from which Primavera takes its duration")
         self.constrain(project, own)
 

@@ -9,19 +9,18 @@ from ..errors import BadInput
 from ..letters import printable
 from ..model import Parts, Resource
 from ..project import MOST_RESOURCES
-from .mspdi_resources import Stretch, absences
-from .xer_crews import named, resources_of
-from .xer_document import Document, called
-from .xer_tables import HOUR, Row, cell, moment, number
+from .mspdi_resources import Stretch, Want, add_resources, needs_of
+from .xer_crews import call_resource, resources_of
+from .xer_document import XerDocument, called
+from .xer_tables import HOUR, Row, cell_of, read_date, number_in
 
 SCALES = (1, 100, 10_000)  # units, in percent, and in hundredths of that
 NEAR = Fraction(1, 100)  # the share by which units and hours may differ, since both are rounded
-Want = tuple[str, str, Fraction]  # an activity, a resource and how many units
 
 
 @dataclass
-class Needs:
-    document: Document
+class ActivityNeeds:
+    document: XerDocument
     calendar: Calendar
     hours: Mapping[str, Hours]
     of: dict[str, dict[Resource, int]] = field(default_factory=dict)
@@ -38,25 +37,16 @@ class Needs:
         scale = next((one for one in SCALES if all((count * one).denominator == 1 for count in counts)), None)
         if scale is None:
             raise BadInput("units by time have more than four digits behind the point")
-        own: dict[str, Resource] = {}
-        for uid in used:
-            name = printable(cell(known[uid], "rsrc_name") or cell(known[uid], "rsrc_short_name") or f"resource {uid}")
-            name = name if all(name != other.name for other in project.resources) else f"{name} ({printable(uid)})"
-            most = max((count for *_, count in there[uid]), default=Fraction(0))
-            own[uid] = project.resource(name, int(most * scale))
-            project.hours |= {own[uid]: self.hours[uid]} if uid in self.hours else {}
-            for begins, ends, away in absences(there[uid], most, self.calendar):
-                project.absence(own[uid], begins, ends, int(away * scale))
-        for task, resource, count in wanted:
-            row = self.of.setdefault(task, {})
-            row[own[resource]] = row.get(own[resource], 0) + int(count * scale)
+        names = {uid: printable(cell_of(known[uid], "rsrc_name") or cell_of(known[uid], "rsrc_short_name") or f"resource {uid}")
+                 for uid in used}
+        self.of = needs_of(add_resources(project, names, there, scale, self.calendar, self.hours), wanted, scale)
 
     def wanted(self) -> list[Want]:
         """What is complete needs nothing any more, and what takes no time nothing at all."""
         document, found, spanning = self.document, list[Want](), list[tuple[str, str]]()
         known = resources_of(document)
         for row in document.rows("TASKRSRC"):
-            task, resource = cell(row, "task_id"), cell(row, "rsrc_id")
+            task, resource = cell_of(row, "task_id"), cell_of(row, "rsrc_id")
             if resource in known and task in document.spanning:
                 spanning.append((task, resource))
             elif resource in known and document.remaining.get(task):
@@ -66,20 +56,20 @@ class Needs:
         needed = {resource for _, resource, _ in found}
         for task, resource in spanning:
             if resource in needed:
-                document.faults.append(f"{called(document.spanning[task])}: it needs {named(known[resource])} as long "
+                document.faults.append(f"{called(document.spanning[task])}: it needs {call_resource(known[resource])} as long "
                                        "as others take, and activities here have a duration of their own")
         return found
 
     def units(self, task: str, resource: Row, row: Row) -> Fraction:
         """By hour, for all of what remains."""
         document, activity = self.document, self.document.activities[task]
-        name = f"{called(activity)}: its assignment of {named(resource)}"
+        name = f"{called(activity)}: its assignment of {call_resource(resource)}"
         hours = Fraction(document.remaining[task], HOUR)
-        if any(number(row, one, name) for one in ("target_lag_drtn_hr_cnt", "relag_drtn_hr_cnt")):
+        if any(number_in(row, one, name) for one in ("target_lag_drtn_hr_cnt", "relag_drtn_hr_cnt")):
             raise BadInput(f"{name} begins later than the activity")
-        if cell(row, "curv_id"):
+        if cell_of(row, "curv_id"):
             raise BadInput(f"{name} has a curve, and units stay the same here")
-        whole, each = (next((told for told in (number(row, f"{kind}{what}", name) for kind in ("remain_", "target_"))
+        whole, each = (next((told for told in (number_in(row, f"{kind}{what}", name) for kind in ("remain_", "target_"))
                              if told is not None), None) for what in ("qty", "qty_per_hr"))
         if whole is None and each is None:
             raise BadInput(f"{name} says no units")
@@ -91,10 +81,10 @@ class Needs:
 
     def there(self, uid: str, resource: Row) -> list[Stretch]:
         """How many units there are when. The first that are told were there before too."""
-        called, rates = named(resource), self.document.tables.get("RSRCRATE", [])
-        rows = sorted((row for row in rates if cell(row, "rsrc_id") == uid), key=lambda row: cell(row, "start_date"))
-        told = [(moment(row, "start_date", called), number(row, "max_qty_per_hr", called)) for row in rows]
-        told = told or [(None, number(resource, "max_qty_per_hr", called))]
+        called, rates = call_resource(resource), self.document.tables.get("RSRCRATE", [])
+        rows = sorted((row for row in rates if cell_of(row, "rsrc_id") == uid), key=lambda row: cell_of(row, "start_date"))
+        told = [(read_date(row, "start_date", called), number_in(row, "max_qty_per_hr", called)) for row in rows]
+        told = told or [(None, number_in(resource, "max_qty_per_hr", called))]
         if any(count is None or count < 0 for _, count in told):
             raise BadInput(f"{called}: it has no greatest number of units by time (max_qty_per_hr)")
         begins = [None, *(at for at, _ in told[1:])]

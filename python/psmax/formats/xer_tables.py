@@ -8,6 +8,7 @@ from itertools import islice
 
 from ..errors import BadInput
 from ..letters import short
+from .tool_file import checked_moment
 
 Row = dict[str, str]
 HEAD, TABLE, COLUMNS, CELLS, LAST = "ERMHDR", "%T", "%F", "%R", "%E"
@@ -16,7 +17,6 @@ READ = {"CALENDAR", "PROJECT", "PROJWBS", "RSRC", "RSRCRATE", "SCHEDOPTIONS", "T
 NAMED = re.compile(r"\n%T(?![^\t\r\n])(?:\t([^\t\r\n]*))?[^\n]*")  # the line with the name of a table
 END = re.compile(r"\n%E(?![^\t\r\n])")  # where a file ends
 NUMBER = re.compile(r"-?(\d{1,9}([.,]\d{0,12})?|[.,]\d{1,12})")
-FIRST_YEAR, LAST_YEAR = 1900, 2200  # of dates
 MOST_TABLES, MOST_COLUMNS, MOST_CELLS = 1_000, 1_000, 500_000  # of a file, of a table, and of all tables that are read
 HOUR = 60
 NEAR = Fraction(1, 100)  # of a minute, since hours have six digits behind the point
@@ -30,7 +30,7 @@ def read_tables(text: str) -> dict[str, list[Row]]:
         count += lines.count("\n") + lines.count("\t")
         if count > MOST_CELLS:
             raise BadInput(f"line {number}: what is read of a file has at most {MOST_CELLS:,} cells")
-        found.setdefault(name, []).extend(rows_of(number, name, lines))
+        found.setdefault(name, []).extend(table_rows(number, name, lines))
     return found
 
 
@@ -52,7 +52,7 @@ def tables_of(text: str) -> Iterator[tuple[int, str, str]]:
             yield number, name, text[place:stop]
 
 
-def rows_of(number: int, name: str, lines: str) -> Iterator[Row]:
+def table_rows(number: int, name: str, lines: str) -> Iterator[Row]:
     """The rows of a table that is named in the line of this number."""
     columns = list[str]()
     for line, text in enumerate(lines.split("\n")[1:], number + 1):
@@ -62,24 +62,24 @@ def rows_of(number: int, name: str, lines: str) -> Iterator[Row]:
         if mark == COLUMNS:
             columns = cells
         elif mark == CELLS:
-            yield row_of(line, name, columns, cells)
+            yield make_row(line, name, columns, cells)
         elif text.strip():
             raise BadInput(f"line {line}: neither a row of {name} nor a table: '{short(text)}'")
 
 
-def row_of(line: int, name: str, columns: list[str], cells: list[str]) -> Row:
+def make_row(line: int, name: str, columns: list[str], cells: list[str]) -> Row:
     if len(cells) > len(columns):
         raise BadInput(f"line {line}: {len(cells)} cells, and {name} has {len(columns)} columns")
     return dict(zip(columns, cells))
 
 
-def cell(row: Row, name: str) -> str:
+def cell_of(row: Row, name: str) -> str:
     return row.get(name, "").strip()
 
 
-def number(row: Row, name: str, called: str) -> Fraction | None:
+def number_in(row: Row, name: str, called: str) -> Fraction | None:
     """What a number says; none where the cell is empty. Its decimal sign is that of the machine that wrote it."""
-    text = cell(row, name)
+    text = cell_of(row, name)
     if text and not NUMBER.fullmatch(text):
         raise BadInput(f"{called}: {name} is no number: '{short(text)}'")
     return Fraction(f"0{text}".replace("0-", "-0").replace(",", ".").removesuffix(".")) if text else None
@@ -87,22 +87,20 @@ def number(row: Row, name: str, called: str) -> Fraction | None:
 
 def minutes(row: Row, name: str, called: str) -> int | None:
     """A length in hours as minutes."""
-    hours = number(row, name, called)
+    hours = number_in(row, name, called)
     found = None if hours is None else round(hours * HOUR)
     if hours is not None and found is not None and abs(hours * HOUR - found) > NEAR:
-        raise BadInput(f"{called}: {name} has no whole minutes: '{short(cell(row, name))}'")
+        raise BadInput(f"{called}: {name} has no whole minutes: '{short(cell_of(row, name))}'")
     return found
 
 
-def moment(row: Row, name: str, called: str) -> datetime.datetime | None:
+def read_date(row: Row, name: str, called: str) -> datetime.datetime | None:
     """What a date says, without its seconds; none where the cell is empty."""
-    text = cell(row, name)
+    text = cell_of(row, name)
     if not text:
         return None
-    try:
-        found = datetime.datetime.strptime(text[:16], "%Y-%m-%d %H:%M")
-    except ValueError:
-        raise BadInput(f"{called}: {name} is no date such as 2026-03-02 08:00: '{short(text)}'") from None
-    if not FIRST_YEAR <= found.year <= LAST_YEAR:
-        raise BadInput(f"{called}: {name} is beyond the years {FIRST_YEAR} to {LAST_YEAR}: '{short(text)}'")
-    return found
+
+    def read(told: str) -> datetime.datetime:
+        return datetime.datetime.strptime(told[:16], "%Y-%m-%d %H:%M")
+
+    return checked_moment(text, read, "2026-03-02 08:00", f"{called}: {name}")

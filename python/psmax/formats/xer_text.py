@@ -8,13 +8,13 @@ from ..dates import read_workdays
 from ..errors import BadInput
 from ..files import decoded
 from ..model import Activity, Lag, Parts, Resource
-from .tool_file import Dates, dates_of, is_said
+from .tool_file import Dates, dates_of, is_said, left_of
 from .xer_calendar import calendar_data, data_of
 from .xer_crews import DEPENDS
-from .xer_document import COMPLETE, ENDS, Document
+from .xer_document import COMPLETE, ENDS, XerDocument
 from .xer_limits import Actuals
 from .xer_sign import MARK
-from .xer_tables import CELLS, COLUMNS, HOUR, LAST, TABLE, cell, read_tables
+from .xer_tables import CELLS, COLUMNS, HOUR, LAST, TABLE, cell_of, read_tables
 
 REFUSED = ("Primavera has no maximum lags between activities, no absences, at most two constraints of an activity, and "
            "one due date for all; write this project as JSON")
@@ -35,22 +35,22 @@ def write(project: Parts) -> str:
     if project.absences or len(due) > 1 or any(
             project.end in (lag.before, lag.after) or lag.after == project.start for lag in project.lags):
         raise BadInput(REFUSED)
-    first, ends = stamp(dates.begins(0)), next(iter(due), None)
+    first, ends = minute_text(dates.begins(0)), next(iter(due), None)
     links = [lag for lag in project.lags if lag.before != project.start]
     limits = limits_of(project)
     used = [one for one in project.resources if any(activity.demands.get(one) for activity in project.activities)]
     tables: dict[str, list[Cells]] = {
         "CALENDAR": calendars(project, dates),
         "PROJECT": [{"proj_id": 1, "proj_short_name": "PLAN", "export_flag": "Y", "clndr_id": PLAN, "plan_start_date": first,
-                     "last_recalc_date": stamp(dates.begins(project.status or 0)),
-                     "plan_end_date": "" if ends is None else stamp(dates.ended(ends))}],
+                     "last_recalc_date": minute_text(dates.begins(project.status or 0)),
+                     "plan_end_date": "" if ends is None else minute_text(dates.ended(ends))}],
         "PROJWBS": breakdown(project),
         "RSRC": [{"rsrc_id": one.number + 1, "clndr_id": calendar_id(project, one), "rsrc_short_name": f"R{one.number + 1}",
                   "rsrc_name": one.name, "rsrc_type": "RT_Labor"} for one in used],
         "RSRCRATE": [{"rsrc_rate_id": one.number + 1, "rsrc_id": one.number + 1, "max_qty_per_hr": one.capacity,
                       "start_date": first} for one in used],
         "TASK": [task(project, activity, limits.get(activity, []), dates) for activity in project.activities],
-        "TASKPRED": [link(number, lag, dates.minutes) for number, lag in enumerate(links, 1)],
+        "TASKPRED": [link_cells(number, lag, dates.minutes) for number, lag in enumerate(links, 1)],
         "TASKRSRC": list(assignments(project, dates.minutes)),
     }
     lines = [f"{MARK}8.0\t{first[:10]}\tProject"]
@@ -70,11 +70,11 @@ def limits_of(project: Parts) -> dict[Activity, list[Lag]]:
     return found
 
 
-def stamp(moment: datetime.datetime) -> str:
+def minute_text(moment: datetime.datetime) -> str:
     return moment.strftime(STAMP)
 
 
-def hours(minutes: float) -> str:
+def in_hours(minutes: float) -> str:
     return f"{minutes / HOUR:.6f}".rstrip("0").rstrip(".")
 
 
@@ -111,30 +111,25 @@ def task(project: Parts, activity: Activity, limits: Iterable[Lag], dates: Dates
     (kind, date), (second_kind, second_date) = [*told, ("", ""), ("", "")][:MOST_CONSTRAINTS]
     depends = any(one in project.hours for one, units in activity.demands.items() if units)
     group = max((place for place, one in enumerate(project.groups) if activity.number in one.activities), default=-1)
-    status, begins, ends, left = done(project, activity, dates)
+    status, begins, ends, left = progress_of(project, activity, dates)
     return {"task_id": activity.number, "proj_id": 1, "wbs_id": TOP + 1 + group, "clndr_id": PLAN,
             "task_code": project.ids.get(activity.number) or f"A{10 * activity.number:05}", "task_name": activity.name,
             "task_type": "TT_Mile" if not activity.duration else DEPENDS if depends else "TT_Task", "status_code": status,
-            "target_drtn_hr_cnt": hours(activity.duration * dates.minutes), "remain_drtn_hr_cnt": hours(left * dates.minutes),
+            "target_drtn_hr_cnt": in_hours(activity.duration * dates.minutes), "remain_drtn_hr_cnt": in_hours(left * dates.minutes),
             "cstr_type": kind, "cstr_date": date, "cstr_type2": second_kind, "cstr_date2": second_date,
             "act_start_date": begins, "act_end_date": ends, "early_start_date": "", "early_end_date": "",
             "target_start_date": "", "target_end_date": ""}
 
 
-def done(project: Parts, activity: Activity, dates: Dates) -> tuple[str, str, str, int]:
+def progress_of(project: Parts, activity: Activity, dates: Dates) -> tuple[str, str, str, int]:
     """How far an activity has come, its real start and end, and how many periods are left of it."""
     begun = project.started.get(activity.number)
     if begun is None:
         return "TK_NotStart", "", "", activity.duration
-    begins, end, left = stamp(dates.begins(begun)), begun + activity.duration, left_of(project, activity)
+    begins, end, left = minute_text(dates.begins(begun)), begun + activity.duration, left_of(project, activity)
     if left:
         return "TK_Active", begins, "", left
-    return COMPLETE, begins, stamp(dates.ended(end)) if activity.duration else begins, 0
-
-
-def left_of(project: Parts, activity: Activity) -> int:
-    begun = project.started.get(activity.number)
-    return activity.duration if begun is None else max(0, begun + activity.duration - (project.status or 0))
+    return COMPLETE, begins, minute_text(dates.ended(end)) if activity.duration else begins, 0
 
 
 def constraints(lag: Lag, dates: Dates) -> list[tuple[str, str]]:
@@ -146,22 +141,22 @@ def constraints(lag: Lag, dates: Dates) -> list[tuple[str, str]]:
     found = [(kind, time) for kind, time in told if time is not None]
     if any(time < is_end for _, time in found):
         raise BadInput(REFUSED)
-    return [(kind, stamp(dates.ended(time) if is_end else dates.begins(time))) for kind, time in found]
+    return [(kind, minute_text(dates.ended(time) if is_end else dates.begins(time))) for kind, time in found]
 
 
-def link(number: int, lag: Lag, minutes: int) -> Cells:
+def link_cells(number: int, lag: Lag, minutes: int) -> Cells:
     if lag.at_most is not None or lag.at_least is None:
         raise BadInput(REFUSED)
     kind = next(kind for kind, ends in ENDS.items() if ends == (lag.before.is_end, lag.after.is_end))
     return {"task_pred_id": number, "task_id": lag.after.activity.number, "pred_task_id": lag.before.activity.number,
-            "proj_id": 1, "pred_proj_id": 1, "pred_type": kind, "lag_hr_cnt": hours(lag.at_least * minutes)}
+            "proj_id": 1, "pred_proj_id": 1, "pred_type": kind, "lag_hr_cnt": in_hours(lag.at_least * minutes)}
 
 
 def assignments(project: Parts, minutes: int) -> Iterable[Cells]:
     pairs = ((activity, one, units) for activity in project.activities
              for one, units in activity.demands.items() if units)
     for number, (activity, one, units) in enumerate(pairs, 1):
-        whole, left = (hours(units * length * minutes) for length in (activity.duration, left_of(project, activity)))
+        whole, left = (in_hours(units * length * minutes) for length in (activity.duration, left_of(project, activity)))
         yield {"taskrsrc_id": number, "task_id": activity.number, "proj_id": 1, "rsrc_id": one.number + 1,
                "remain_qty": left, "target_qty": whole, "remain_qty_per_hr": units, "target_qty_per_hr": units}
 
@@ -170,8 +165,8 @@ def replanned(data: bytes, schedule: Schedule) -> bytes:
     """The same file with the starts of a schedule of it in what has not started. All else stays, byte for byte."""
     if data.startswith(UTF_16):
         raise BadInput("the file is in UTF-16, in which Primavera writes none")
-    document = Document(read_tables(decoded(data)))
-    times, project = times_of(document, schedule), cell(document.project, "proj_id")
+    document = XerDocument(read_tables(decoded(data)))
+    times, project = times_of(document, schedule), cell_of(document.project, "proj_id")
     lines, columns, name = data.split(b"\n"), dict[str, int](), ""
     for place, line in enumerate(lines):
         cells = line.removesuffix(b"\r").split(b"\t")
@@ -184,21 +179,21 @@ def replanned(data: bytes, schedule: Schedule) -> bytes:
             columns = {one: number for number, one in enumerate(told) if number}
         elif mark == CELLS:
             row = {one: told[number] for one, number in columns.items() if number < len(told)}
-            put(cells, columns, new_dates(name, row, times, project))
+            put_cells(cells, columns, new_dates(name, row, times, project))
             lines[place] = b"\t".join(cells) + b"\r" * line.endswith(b"\r")
     return b"\n".join(lines)
 
 
-def times_of(document: Document, schedule: Schedule) -> dict[str, tuple[str, str]]:
+def times_of(document: XerDocument, schedule: Schedule) -> dict[str, tuple[str, str]]:
     """When what has not started begins and ends; and the end of the project, by no ID."""
     calendar, durations, starts = Actuals(document).calendar, schedule.question.numbers.durations, schedule.starts
     found, last = dict[str, tuple[str, str]](), ""
     for number, (uid, row) in enumerate(document.activities.items(), 1):
         start, end = starts[number], starts[number] + durations[number]
-        last = max(last, stamp(calendar.span(start, end)[1]))
-        begins, ends = calendar.span(start, end, cell(row, "task_type") == "TT_Mile")
+        last = max(last, minute_text(calendar.span(start, end)[1]))
+        begins, ends = calendar.span(start, end, cell_of(row, "task_type") == "TT_Mile")
         if uid not in document.begun:
-            found[uid] = stamp(begins), stamp(ends)
+            found[uid] = minute_text(begins), minute_text(ends)
     return found | {"": ("", last)}
 
 
@@ -214,7 +209,7 @@ def new_dates(name: str, row: Mapping[str, str], times: Mapping[str, tuple[str, 
     return dict.fromkeys(BEGINS[name], begins) | dict.fromkeys(FINISHES[name], ends)
 
 
-def put(cells: list[bytes], columns: Mapping[str, int], new: Mapping[str, str]) -> None:
+def put_cells(cells: list[bytes], columns: Mapping[str, int], new: Mapping[str, str]) -> None:
     """Into the columns that are there."""
     for name, text in new.items():
         if name in columns:

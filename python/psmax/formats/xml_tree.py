@@ -41,7 +41,7 @@ def refused(*_: object) -> None:
     raise BadInput("the XML has a document type, which may hold entities; such a text is not read")
 
 
-def parsed(text: str) -> Element:
+def parse_xml(text: str) -> Element:
     if text.count("<") > MOST_SIGNS:
         raise BadInput(f"the XML has more than {MOST_SIGNS:,} signs <")
     builder, parser = Limited(), expat.ParserCreate("utf-8")
@@ -76,7 +76,7 @@ def text_of(parent: Element, name: str) -> str | None:
     return None if found is None or found.text is None or not found.text.strip() else found.text.strip()
 
 
-def put(parent: Element, name: str, text: str, order: tuple[str, ...]) -> None:
+def put_child(parent: Element, name: str, text: str, order: tuple[str, ...]) -> None:
     """Has a child of this name hold a text; a new one stands before those that come later in this order."""
     found = parent.find(name)
     if found is None:

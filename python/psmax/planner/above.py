@@ -68,7 +68,7 @@ def read_above(file: str, sheet: Sheet, folder: str) -> Above:
     order = told["dates"][2] if "dates" in told else None
     for name, (number, place, text) in told.items():
         with faults.kept():
-            why = why_not(name, text, order) if text else ""
+            why = why_no_setting(name, text, order) if text else ""
             if why:
                 raise fault_at(file, number, place, "", why)
     faults.tell()
@@ -117,7 +117,7 @@ def meant(name: str) -> str:
     return "; write a title behind 'title', and a note for people behind '#'"
 
 
-def why_not(name: str, text: str, order: str | None) -> str:
+def why_no_setting(name: str, text: str, order: str | None) -> str:
     """What is wrong with the value of a setting by itself; nothing where it may be one."""
     try:
         CHECKS.get(name, lambda *_: None)(text, order)

@@ -23,7 +23,7 @@ def read_absences(path: str, project: Numbers, names: Names, terms: Terms) -> li
     """By dates, of which the last is the last day away, or by the numbers of periods, as a resource's use is written.
     No first one is from the start on, no last one for ever, and no units are all. A period of which a part is away is
     away."""
-    sheet, faults, found = read_sheet(path, read_text(path), is_head), Faults(), []
+    sheet, faults, found = read_sheet(path, read_text(path), is_absence_head), Faults(), []
     heads = [HEAD.get(head.lower(), head.lower()) for head in sheet.heads]
     if not {"resource", "from", "to"} <= {*heads}:
         raise BadInput(f"{path}: row 1 has to name the columns resource, from, to and units")
@@ -49,7 +49,7 @@ def read_absences(path: str, project: Numbers, names: Names, terms: Terms) -> li
     return found
 
 
-def is_head(row: list[str]) -> bool:
+def is_absence_head(row: list[str]) -> bool:
     return {"resource", "from"} <= {HEAD.get(head.lower()) for head in row}
 
 

@@ -9,7 +9,7 @@ from ..errors import BadInput
 from ..letters import at_most, printable, short
 from ..project import Numbers, least_end
 from ..psmax import Psmax
-from .answer_text import AnswerText, Begin
+from .answer_text import AnswerText, Begin, read_answer
 from .project_file import ProjectFile
 from .wording import Words
 
@@ -41,7 +41,7 @@ class Tied:
     pairs: dict[int, int]  # the project's number of each activity of the answer that it has
 
 
-def judged(opened: ProjectFile, given: AnswerText, psmax: Psmax) -> JudgedStarts:
+def judge_answer(opened: ProjectFile, given: AnswerText, psmax: Psmax) -> JudgedStarts:
     """The starts of this answer, judged by psmax. What is no project, or has no start for an activity, is told."""
     given = counted(opened, given.must_have_starts())
     project, tied, words = opened.project, tie(opened, given), Words(opened)
@@ -57,7 +57,7 @@ def judged(opened: ProjectFile, given: AnswerText, psmax: Psmax) -> JudgedStarts
 
 def feasible(opened: ProjectFile, given: AnswerText, psmax: Psmax) -> JudgedStarts:
     """The same where psmax finds it feasible; whatever else is told as a fault."""
-    known = judged(opened, given, psmax)
+    known = judge_answer(opened, given, psmax)
     if known.value is None:
         raise BadInput(*(f"{given.called}: not a schedule: {told}" for told in at_most([*known.violations])))
     return known
@@ -105,11 +105,11 @@ def tie(opened: ProjectFile, given: AnswerText) -> Tied:
         gone = {number: f"activity {number}" for number in given.starts if number not in known}
     starts = {0: time(opened, 0, given.starts[0], given) if 0 in given.starts else 0}
     starts |= {pairs[was]: time(opened, pairs[was], begin, given) for was, begin in given.starts.items() if was in pairs}
-    starts[project.end] = end_of(opened, given, starts)
+    starts[project.end] = read_end(opened, given, starts)
     return Tied(starts, [number for number in inner if number not in starts], gone, pairs)
 
 
-def end_of(opened: ProjectFile, given: AnswerText, starts: dict[int, int]) -> int:
+def read_end(opened: ProjectFile, given: AnswerText, starts: dict[int, int]) -> int:
     """An answer of psmax says when the end starts, which is later where somebody wants it so."""
     least, said = least_end(opened.project, starts), given.starts.get(opened.project.end)
     by_number_alone = not given.is_table and not (given.names and opened.names.activities)
@@ -156,16 +156,27 @@ def same_names(was: dict[int, str], now: dict[int, str]) -> dict[int, int]:
     """Which activity each one is now. One whose name several have is known only where all of them stand as they
     stood."""
     pairs: dict[int, int] = {}
-    there = places(now)
-    for name, numbers in places(was).items():
+    there = places_by_name(now)
+    for name, numbers in places_by_name(was).items():
         found = there.get(name, [])
         if found == numbers or len(found) == len(numbers) == 1:
             pairs.update(zip(numbers, found))
     return pairs
 
 
-def places(names: dict[int, str]) -> dict[str, list[int]]:
+def places_by_name(names: dict[int, str]) -> dict[str, list[int]]:
     found: dict[str, list[int]] = {}
     for number, name in sorted(names.items()):
         found.setdefault(name, []).append(number)
     return found
+
+
+def read_baseline(opened: ProjectFile, path: str | None) -> dict[int, tuple[int, int]]:
+    """When each activity that an earlier plan has too, whose bars a chart shows below, began and ended: after as long
+    as that answer says, or else as it takes today."""
+    if path is None:
+        return {}
+    given = counted(opened, read_answer(path).must_have_starts())
+    tied, takes = tie(opened, given), opened.project.durations
+    return {now: (tied.starts[now], tied.starts[now] + given.takes.get(was, takes[now]))
+            for was, now in tied.pairs.items() if was in given.starts}

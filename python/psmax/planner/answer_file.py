@@ -14,7 +14,7 @@ from .answer import JudgedStarts, counted, feasible, tie
 from .answer_text import AnswerText, answer_of
 from .csv_text import write_sheet
 from .project_file import ProjectFile
-from .write import rows
+from .write import schedule_rows
 
 WITHOUT_STARTS = (b"no schedule", b"unknown ")  # the beginnings of answers of a search
 
@@ -99,7 +99,7 @@ def answer_text(best: Incumbent, opened: ProjectFile, as_table: bool) -> bytes:
     """What is known, with the names of the activities: as a table, or in the lines of psmax, the first of which, which
     psmax passes over, has the names."""
     if as_table and best.known.starts is not None:
-        return write_sheet(rows(opened, best.known.starts, with_dates=False)).encode()
+        return write_sheet(schedule_rows(opened, best.known.starts, with_dates=False)).encode()
     first, _, rest = best.answer().decode().partition("\n")
     activities = activities_of(opened)
     told = f" {json.dumps(activities, ensure_ascii=False)}" if any(opened.names.activities.values()) else ""

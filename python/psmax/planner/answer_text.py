@@ -150,7 +150,7 @@ def from_json(text: str, called: str) -> AnswerText:
     """An answer of `psmax solve --json` or `plan solve --json`, as the lines that it stands for."""
     told = json_object(text)
     starts = told.get("starts") or []
-    first = first_line(told) if told.keys() >= KEYS else None
+    first = plain_first_line(told) if told.keys() >= KEYS else None
     if first is None or not isinstance(starts, list) or not all(type(start) is int for start in starts):
         raise BadInput(f"{called}: line 1: not an activity and a start, and no answer in JSON")
     return from_lines("\n".join([first, *(f"{i} {start}" for i, start in enumerate(starts))]), called, told)
@@ -164,7 +164,7 @@ def json_object(text: str) -> dict[str, object]:
     return told if isinstance(told, dict) else {}
 
 
-def first_line(told: dict[str, object]) -> str | None:
+def plain_first_line(told: dict[str, object]) -> str | None:
     """The first line of the plain answer, or none where this is no answer."""
     bound = told["bound"]
     lateness = told.get("lateness")
@@ -216,7 +216,7 @@ def from_sheet(sheet: Sheet, called: str) -> AnswerText:
         if activity in given.starts:
             raise BadInput(f"{called}: row {number}: a second start of activity {activity}")
         given.names[activity] = cell(row, columns.get("name")) or ("" if has_number else key)
-        given.starts[activity] = begin(sheet, called, number, row, columns)
+        given.starts[activity] = read_begin(sheet, called, number, row, columns)
         if START.fullmatch(cell(row, columns.get("takes"))):
             given.takes[activity] = int(cell(row, columns.get("takes")))
     if not any(given.names.values()):
@@ -236,7 +236,7 @@ def period_of(sheet: Sheet, called: str, columns: dict[str, int]) -> str:
     return first
 
 
-def begin(sheet: Sheet, called: str, number: int, row: list[str], columns: dict[str, int]) -> Begin:
+def read_begin(sheet: Sheet, called: str, number: int, row: list[str], columns: dict[str, int]) -> Begin:
     """The start in a row. A date in its own column says the same once more."""
     column, text, day = columns["start"], cell(row, columns["start"]), cell(row, columns.get("day"))
     place = f"{called}: row {number}, column {letters(column)} ({short(sheet.heads[column])})"

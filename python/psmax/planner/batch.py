@@ -18,7 +18,7 @@ from ..clock import Clock, tell
 from ..errors import BadInput, Failed
 from ..letters import escaped, printable
 from ..process import ENDING, GLANCE, RECORD, tied
-from .batch_table import FAULT, HEADS, Row, Rows, contradictions, keep, read_published, read_rows
+from .batch_table import FAULT, HEADS, Row, Rows, contradictions, keep_row, read_published, read_batch
 from .csv_text import write_sheet
 from .project_file import has_activities, is_project
 
@@ -90,13 +90,12 @@ def batch(wanted: Batch) -> int:
         os.makedirs(folder, exist_ok=True)
     lose_none(reads, [wanted.csv, *(path for task in tasks for _, path in outputs(task, wanted))])
     published = {} if wanted.known is None else read_published(wanted.known)
-    done = read_rows(wanted.csv) if wanted.csv is not None and os.path.exists(wanted.csv) else {}
+    done = read_batch(wanted.csv) if wanted.csv is not None and os.path.exists(wanted.csv) else {}
     left = [task for task in tasks if done.get(task.row, {}).get("status", FAULT) == FAULT]
-    clock = Clock(float("inf"))
-    clock.listen()
+    clock = Clock(float("inf")).listen()
     if wanted.csv is None:
         print(write_sheet([HEADS]), end="", flush=True)
-    rows = {**done, **run(wanted, left, clock)}
+    rows = {**done, **search_all(wanted, left, clock)}
     own = [rows[task.row] for task in tasks if task.row in rows]
     counts = Counter(row["status"] for row in own)
     tell(clock, f"{len(own)} of {len(tasks)} projects: "
@@ -136,17 +135,17 @@ def is_wanted(path: pathlib.Path) -> bool:
     return path.suffix.lower() == ".sch" or is_project(str(path))
 
 
-def run(wanted: Batch, left: Sequence[Task], clock: Clock) -> Rows:
+def search_all(wanted: Batch, left: Sequence[Task], clock: Clock) -> Rows:
     """Searches the projects side by side, and puts each row as soon as it is known."""
     found: Rows = {}
     with ThreadPoolExecutor(wanted.jobs) as jobs, ProgressBar(len(left), clock) as bar:
-        pending: set[Future[Row | None]] = {jobs.submit(row_of, task, wanted, clock) for task in left}
+        pending: set[Future[Row | None]] = {jobs.submit(search_row, task, wanted, clock) for task in left}
         while pending:
             done, pending = wait(pending, return_when=FIRST_COMPLETED)
             for row in (one.result() for one in done):
                 if row is not None:
                     found[row["project"]] = row
-                    keep(row, wanted.csv)
+                    keep_row(row, wanted.csv)
                     bar.step(f"{row['project']}: {row['status']} {row['makespan']}{row['fault']}".rstrip())
     return found
 
@@ -157,13 +156,13 @@ def outputs(task: Task, wanted: Batch) -> list[tuple[str, str]]:
     return [(option, os.path.join(folder, task.stem + suffix)) for option, folder, suffix in folders if folder is not None]
 
 
-def row_of(task: Task, wanted: Batch, clock: Clock) -> Row | None:
+def search_row(task: Task, wanted: Batch, clock: Clock) -> Row | None:
     """What one search knows at its end; none where the batch was ended before."""
     named = [word for output in outputs(task, wanted) for word in output]
     if clock.stopped:
         return None
-    child = begin([str(task.path), "--json", "--jobs", "1", "--seconds", f"{wanted.seconds:g}", *named])
-    out_of_it = answer_of(child, clock)
+    child = begin_solve([str(task.path), "--json", "--jobs", "1", "--seconds", f"{wanted.seconds:g}", *named])
+    out_of_it = wait_for_answer(child, clock)
     if out_of_it is None:
         return None
     row = dict.fromkeys(HEADS, "") | {"project": task.row, "limit": f"{wanted.seconds:g}"}
@@ -177,7 +176,7 @@ def row_of(task: Task, wanted: Batch, clock: Clock) -> Row | None:
                           "psprove": told["versions"]["psprove"]}
 
 
-def begin(words: Sequence[str]) -> subprocess.Popen[bytes]:
+def begin_solve(words: Sequence[str]) -> subprocess.Popen[bytes]:
     """`plan solve` as a process of its own, which ends with this one. It starts soon without the machine's packages
     (-S)."""
     home = {"PYTHONPATH": str(pathlib.Path(__file__).resolve().parents[2])}
@@ -185,7 +184,7 @@ def begin(words: Sequence[str]) -> subprocess.Popen[bytes]:
                             stdout=subprocess.PIPE, stderr=subprocess.PIPE, env={**os.environ, **home}, start_new_session=True)
 
 
-def answer_of(child: subprocess.Popen[bytes], clock: Clock) -> tuple[str, str] | None:
+def wait_for_answer(child: subprocess.Popen[bytes], clock: Clock) -> tuple[str, str] | None:
     """What a search prints; none where the batch was ended before, and the search with it."""
     while not clock.stopped:
         with suppress(subprocess.TimeoutExpired):

@@ -1,7 +1,7 @@
 """The parts of a chart as SVG, from which a page and a picture are made: bars, the use of resources, and lags as
 arrows."""
 import pathlib
-from collections.abc import Sequence
+from collections.abc import Iterable, Sequence
 from functools import partial
 from xml.etree.ElementTree import Element, SubElement, tostring
 
@@ -32,15 +32,16 @@ def markup(*parts: Element) -> str:
     return "".join(tostring(part, "unicode", short_empty_elements=False) for part in parts)
 
 
-def group(parts: Sequence[Element], kind: str = "", **places: str) -> Element:
-    made = mark("g", kind, "", **places)
-    made.extend(parts)
+def holding(tag: str, parts: Iterable[Element], kind: str = "", **places: object) -> Element:
+    """A part that has others within it."""
+    made = mark(tag, kind, "", **places)
+    made.extend([*parts])
     return made
 
 
 def tip(text: str, *parts: Element) -> Element:
     """The parts, with what a pointer on them shows."""
-    return group([mark("title", "", text), *parts])
+    return holding("g", [mark("title", "", text), *parts])
 
 
 def definitions() -> Element:
@@ -249,7 +250,7 @@ class Chart:
         y2 -= (ROW / 2 - BAR[0]) * (1 if y2 > y1 else -1)
         parts = [mark("title", "", words.lag(arc)), mark("line", x1=self.x(x1), x2=self.x(x2), y1=y1, y2=y1),
                  mark("line", "head", x1=self.x(x2), x2=self.x(x2), y1=y1, y2=y2)]
-        return group(parts, "lag" + (" greatest" if arc.lag < 0 else "") + kind, data_ends=f"{first} {last}")
+        return holding("g", parts, "lag" + (" greatest" if arc.lag < 0 else "") + kind, data_ends=f"{first} {last}")
 
     def place(self, activity: int) -> tuple[float, float, float, int]:
         """Where it begins and ends, where its row is, and its length; the start is above all rows, and the end

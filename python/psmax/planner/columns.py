@@ -177,7 +177,7 @@ def why_not_own(heads: list[str], place: int) -> str:
 
 
 def why_no_resource(columns: Columns, head: str) -> str:
-    name, units = resource(head)
+    name, units = split_resource(head)
     try:
         hours_of(head)
     except ValueError as fault:
@@ -186,12 +186,12 @@ def why_no_resource(columns: Columns, head: str) -> str:
         return f"a project has at most {MOST_RESOURCES} resources" if len(columns.resources) == MOST_RESOURCES else ""
     if len(units) > 9 or int(units) > MOST_UNITS:
         return f"a capacity is at most {MOST_UNITS:,}"
-    if name in [resource(columns.heads[other])[0] for other in columns.resources]:
+    if name in [split_resource(columns.heads[other])[0] for other in columns.resources]:
         return f"a second resource '{short(name)}'"
     return ""
 
 
-def resource(head: str) -> tuple[str, str]:
+def split_resource(head: str) -> tuple[str, str]:
     """The name and the capacity that the column of a resource has as its own."""
     found = RESOURCE.fullmatch(head)
     assert found is not None

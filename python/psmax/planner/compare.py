@@ -11,7 +11,7 @@ from .answer_text import AnswerText, read_answer
 from .project_file import ProjectFile
 
 
-class Side:
+class ComparedPlan:
     """One schedule, by the numbers that its activities have in its answer. Ends follow from the starts: by how long the
     answer says that an activity took, else by how long it takes today. Dates are those of the project before it was
     changed, where it had the same periods."""
@@ -66,12 +66,12 @@ class Side:
 
 def compare(opened: ProjectFile, old: str, new: str, why: Callable[[int], int] | None) -> int:
     """Where the new schedule is later it asks why none ends as soon as the old one."""
-    before, after = Side(read_answer(old), opened), Side(read_answer(new), opened)
+    before, after = ComparedPlan(read_answer(old), opened), ComparedPlan(read_answer(new), opened)
     print(*differences(before, after), sep="\n")
     return why(before.value) if why is not None and after.value > before.value else 0
 
 
-def same_activities(was: Side, now: Side) -> dict[int, int]:
+def same_activities(was: ComparedPlan, now: ComparedPlan) -> dict[int, int]:
     """Which activity of the new schedule each one of the old is: by name, or by number where one side has no names."""
     if any(was.names.values()) and any(now.names.values()):
         return same_names(was.names, now.names)
@@ -87,39 +87,39 @@ class Move:
     text: str
 
 
-def moves(was: Side, now: Side) -> list[Move]:
+def moves(was: ComparedPlan, now: ComparedPlan) -> list[Move]:
     """What moved, what is new and what is gone, each in the order of the starts."""
     pairs, found = same_activities(was, now), []
     for i, j in sorted(pairs.items(), key=lambda pair: (now.starts[pair[1]], pair[1])):
         before, after, periods = was.when(i), now.when(j), now.starts[j] - was.starts[i]
         if periods or before != after:
             kind = "later" if periods > 0 or not periods and now.at(j) > was.at(i) else "earlier"
-            found.append(Move(kind, now.called(j), f"{before} -> {after}{late(periods, now.opened.length)}"))
+            found.append(Move(kind, now.called(j), f"{before} -> {after}{describe_move(periods, now.opened.length)}"))
     for side, others, kind, says in ((now, pairs.values(), "new", "new, at"), (was, pairs, "gone", "gone, was at")):
         for i in sorted(side.starts.keys() - {*others}, key=lambda i: (side.starts[i], i)):
             found.append(Move(kind, side.called(i), f"{says} {side.when(i)}"))
     return found
 
 
-def totals(was: Side, now: Side) -> list[str]:
+def totals(was: ComparedPlan, now: ComparedPlan) -> list[str]:
     """What became of the makespan, and of the lateness where something is due."""
     length = now.opened.length
-    told = [f"makespan {change(was.makespan, now.makespan, length)}{ends(was, now)}"]
-    return told + ([f"lateness {change(was.lateness, now.lateness, length)}"] if now.opened.project.due else [])
+    told = [f"makespan {describe_change(was.makespan, now.makespan, length)}{describe_ends(was, now)}"]
+    return told + ([f"lateness {describe_change(was.lateness, now.lateness, length)}"] if now.opened.project.due else [])
 
 
-def differences(was: Side, now: Side) -> list[str]:
+def differences(was: ComparedPlan, now: ComparedPlan) -> list[str]:
     found = moves(was, now)
     wide = max([0, *(len(one.name) for one in found)])
     return [*totals(was, now), *(f"  {one.name:{wide}}  {one.text}" for one in found), as_before(found, now)]
 
 
-def as_before(found: list[Move], now: Side) -> str:
+def as_before(found: list[Move], now: ComparedPlan) -> str:
     changed = sum(one.kind != "gone" for one in found)
     return f"{len(now.starts) - changed} of {len(now.starts)} start as before"
 
 
-def ends(was: Side, now: Side) -> str:
+def describe_ends(was: ComparedPlan, now: ComparedPlan) -> str:
     """The dates of both ends."""
     calendars = [(side.before or side.opened).calendar for side in (was, now)]
     dates = [calendar.times(side.makespan, side.makespan)[1] for side, calendar in zip((was, now), calendars)
@@ -127,10 +127,10 @@ def ends(was: Side, now: Side) -> str:
     return f" ({dates[0]} -> {dates[1]})" if len(dates) == 2 else ""
 
 
-def change(was: int, now: int, length: Callable[[int], str]) -> str:
-    return f"{length(was)} -> {length(now)}{late(now - was, length)}"
+def describe_change(was: int, now: int, length: Callable[[int], str]) -> str:
+    return f"{length(was)} -> {length(now)}{describe_move(now - was, length)}"
 
 
-def late(periods: int, length: Callable[[int], str]) -> str:
+def describe_move(periods: int, length: Callable[[int], str]) -> str:
     """How much later, in words; empty where it is the same."""
     return f", {length(abs(periods))} {'later' if periods > 0 else 'earlier'}" if periods else ""

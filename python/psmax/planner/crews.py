@@ -14,7 +14,7 @@ from .rows import Row, Terms
 from .settings import Settings
 
 
-def parts_of(settings: Settings, marks: Collection[int] = ()) -> list[Stretch]:
+def parts_of_day(settings: Settings, marks: Collection[int] = ()) -> list[Stretch]:
     """The hours of work of a day, in more parts where the project starts within them or the hours of a resource change
     there, so that a period begins there."""
     first = None if settings.first is None else moment(settings.first, "from", settings.dates).at
@@ -37,7 +37,7 @@ def lengths_between(columns: Columns, settings: Settings) -> list[Length]:
     if not marks or settings.first is None:
         return []
     if settings.shift is not None:
-        found = [ends - begins for begins, ends in parts_of(settings, marks)]
+        found = [ends - begins for begins, ends in parts_of_day(settings, marks)]
     else:
         first = moment(settings.first, "from", settings.dates).at
         found = [(minute - 60 * first.hour - first.minute) % MIDNIGHT or MIDNIGHT for minute in marks]
@@ -101,18 +101,18 @@ def must_fit(rows: Iterable[Row], durations: Sequence[int], demands: Sequence[Se
 def must_go_on(row: Row, rest: int, found: Sequence[Stretch], now: int) -> None:
     """What has started goes on without a break."""
     if rest and (not found or found[0][0] > now or found[0][1] < now + rest):
-        raise row.fault(Column.DURATION, f"what remains, {told(row, rest)}, goes beyond the hours of what it needs; "
+        raise row.fault(Column.DURATION, f"what remains, {period_text(row, rest)}, goes beyond the hours of what it needs; "
                         "write what is done as a row that has finished, and the rest as one of its own")
 
 
 def must_fit_one(row: Row, duration: int, longest: int) -> None:
     if duration > longest > 0:
-        raise row.fault(Column.DURATION, f"{told(row, duration)}, and all that it needs is there for "
-                        f"{told(row, longest)} at a time; 'yes' in a column 'may pause' cuts it into whole shifts")
+        raise row.fault(Column.DURATION, f"{period_text(row, duration)}, and all that it needs is there for "
+                        f"{period_text(row, longest)} at a time; 'yes' in a column 'may pause' cuts it into whole shifts")
     if duration > longest:
         raise row.fault(Column.DURATION, "all that it needs is never there at once")
 
 
-def told(row: Row, periods: int) -> str:
+def period_text(row: Row, periods: int) -> str:
     text, name = row.terms.scale.text(periods), row.terms.scale.name()
     return text if not text.isdigit() else f"{text} {name.removesuffix('s') if periods == 1 else name}"

@@ -91,16 +91,16 @@ def split(file: str, text: str, separator: str) -> list[list[str]]:
     """Of a text once, however often it is looked at; nobody changes what it is."""
     found = csv.reader(io.StringIO(text, newline=""), delimiter=separator, strict=True)
     try:
-        return [cells_of(file, number, row) for number, row in enumerate(found, 1)]
+        return [trim_cells(file, number, row) for number, row in enumerate(found, 1)]
     except (csv.Error, ValueError) as fault:
         raise BadInput(f"{file}: not a table in CSV: {fault}") from None
 
 
-def cells_of(file: str, number: int, row: list[str]) -> list[str]:
+def trim_cells(file: str, number: int, row: list[str]) -> list[str]:
     """Those of a row of this number, as they are read."""
     if len(row) > MOST_COLUMNS and any(one.strip() for one in row[MOST_COLUMNS:]):
         raise BadInput(f"{file}: row {number}: a table has at most {MOST_COLUMNS:,} columns, and this one {len(row):,}")
-    cells = [plain(shown(one.strip())) for one in row]
+    cells = [plain_blanks(unforced(one.strip())) for one in row]
     long = next((place for place, one in enumerate(cells) if len(one) > MOST_SIGNS), None)
     if long is not None:
         raise BadInput(f"{file}: row {number}, column {letters(long)}: a cell has at most {MOST_SIGNS:,} signs")
@@ -129,12 +129,12 @@ def heads(row: list[str]) -> list[str]:
     return [" ".join(head.split()) for head in row]
 
 
-def shown(cell: str) -> str:
+def unforced(cell: str) -> str:
     """What a spreadsheet shows of a cell that it is told to take for a text: `="2-3"` is 2-3."""
     return cell[2:-1].replace('""', '"') if cell.startswith("=") and FORCED.fullmatch(cell) else cell
 
 
-def plain(cell: str) -> str:
+def plain_blanks(cell: str) -> str:
     """The cell with a blank for each line break and each blank of another kind."""
     return cell if cell.isascii() and cell.isprintable() else ODD_BLANKS.sub(" ", cell)
 

@@ -10,7 +10,7 @@ from dataclasses import dataclass, replace
 from ..call_files import lose_none, same_file
 from ..clock import Clock, tell
 from ..cubes.driver import TRIES, Driver
-from ..cubes.folder import PROJECT, must_be_ours
+from ..cubes.folder import PROJECT, must_be_cubes
 from ..cubes.machines import Cluster, Machines, Processes
 from ..cubes.tree import WHOLE, Driven
 from ..errors import BadInput, Failed, TimeUp
@@ -21,7 +21,7 @@ from ..project_text import ProjectText
 from ..psprove import Psprove
 from ..record import PROVED
 from .beginning import Beginning
-from .join import joined, outside, place_of
+from .join import join_logs, outside, place_of
 
 
 @dataclass(frozen=True)
@@ -36,7 +36,7 @@ class Places:
     def must_lose_none(self, reads: Mapping[str, str], writes: list[str | None]) -> None:
         """A fault where the folder would replace a file, or one of these a file of the folder. Its own project
         stays."""
-        must_be_ours(pathlib.Path(self.folder))
+        must_be_cubes(pathlib.Path(self.folder))
         others = {what: path for what, path in reads.items() if not same_file(path, os.path.join(self.folder, PROJECT))}
         lose_none(others, [*writes, outside(self.folder, self.record)], self.folder)
 
@@ -44,7 +44,7 @@ class Places:
         return Cluster(self.cluster) if self.cluster else Processes(self.jobs, find_program(Psprove.name))
 
 
-def search(beginning: Beginning, best: Incumbent, places: Places) -> None:
+def search_in_cubes(beginning: Beginning, best: Incumbent, places: Places) -> None:
     """Runs until everything is known or the time is over. Cubes whose logs are wrong are searched again."""
     if beginning.project.dated:
         raise BadInput("a search in cubes has no cases, which lags in calendar days need; search without a folder")
@@ -71,10 +71,9 @@ def search(beginning: Beginning, best: Incumbent, places: Places) -> None:
 
 def learn(tree: Driven, record: str, best: Incumbent, spelled: ProjectText) -> dict[str, str]:
     """Takes what the logs prove together. The faults of those that are wrong, by the names of their cubes."""
-    clock = Clock()
-    clock.listen()
+    clock = Clock().listen()
     try:
-        found = joined(tree, record, clock)
+        found = join_logs(tree, record, clock)
     except TimeUp:
         tell(best.clock, "stopped before the record was there; `plan join` makes it")
         return {}

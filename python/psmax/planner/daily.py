@@ -5,12 +5,11 @@ from dataclasses import dataclass
 from xml.etree.ElementTree import Element
 
 from ..calendars import DAY, Days, at_midnight
-from ..date_style import weekday
+from ..dates import weekday
 from ..errors import BadInput
-from .chart import mark, markup
+from .chart import holding, mark, markup
 from .icalendar import wanted
-from .page import digest, file, filled
-from .page_tables import filled as holding
+from .page import source_hash, read_part, filled
 from .project_file import ProjectFile
 from .window import Stretch, away
 
@@ -41,9 +40,9 @@ class DailyList:
 
     def page(self, title: str) -> str:
         days = [one for one in map(self.sheet, self.days()) if one is not None]
-        style = file("daily.css")
-        return filled(file("daily.html"), {
-            "title": title, "style": style, "policy": f"style-src {digest(style)}",
+        style = read_part("daily.css")
+        return filled(read_part("daily.html"), {
+            "title": title, "style": style, "policy": f"style-src {source_hash(style)}",
             "days": markup(*days) if days else "<p>Nothing is left to do.</p>"}, str)
 
     def days(self) -> Iterator[Day]:

@@ -61,7 +61,7 @@ def with_one_sign(file: str, sheet: Sheet, places: Mapping[Column, int], faults:
         with faults.kept():
             plain = None if first is None else one.plain(first.sign)
             if plain is None:
-                raise fault_at(file, one.row, one.column, sheet.heads[one.column], why_not(one, first))
+                raise fault_at(file, one.row, one.column, sheet.heads[one.column], why_no_number(one, first))
             cells = rows[one.row - sheet.head_row - 1]
             cells[one.column] = cells[one.column].replace(one.number, plain, 1)
     return replace(sheet, rows=rows)
@@ -79,7 +79,7 @@ def numbers_in(sheet: Sheet, places: Mapping[Column, int]) -> Iterator[Found]:
             yield from (Found(number, place, text, part) for part in parts)
 
 
-def why_not(one: Found, first: Found | None) -> str:
+def why_no_number(one: Found, first: Found | None) -> str:
     if first is None:
         return f"'{short(one.text)}' may be {one.readings()}; write that"
     return (f"'{short(one.text)}' has not the decimal {SIGNS[first.sign]} that row {first.row} has in '{short(first.text)}'; "

@@ -95,7 +95,7 @@ def make(opened: ProjectFile, starts: tuple[int, ...], title: str, notes: tuple[
                         *opened.times(i, starts[i]), known.windows.get(i), i in known.critical, project.due.get(i),
                         has_started, known.was.get(i), opened.names.label(i), i in known.open,
                         starts[i] in opened.mornings.get(i, ()), beside(opened, (i, starts[i]), (i, starts[i]))))
-    loads = tuple(Load(opened.names.resource(k), units, joined(stretches(project, starts, k)),
+    loads = tuple(Load(opened.names.resource(k), units, join_stretches(stretches(project, starts, k)),
                        cut(away(project, k, ends), ends), cut(off(project, k), ends))
                   for k, units in enumerate(project.capacities))
     return Drawing(title, notes, begins, ends, tuple(bars), loads, is_plan, opened.calendar, opened.length,
@@ -124,7 +124,7 @@ def beside(opened: ProjectFile, first: tuple[int, int], last: tuple[int, int]) -
     return " \u2013 ".join(told)
 
 
-def joined(found: tuple[Stretch, ...]) -> tuple[Stretch, ...]:
+def join_stretches(found: tuple[Stretch, ...]) -> tuple[Stretch, ...]:
     """The same, with one stretch for those that meet in a time at which as many units go as come."""
     whole: list[Stretch] = []
     for one in found:

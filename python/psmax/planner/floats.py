@@ -17,7 +17,7 @@ from .beginning import Beginning, Start, begin_with
 from .gantt import ChartWords
 from .project_file import ProjectFile, must_be_ordinary
 from .window import Window, windows
-from .write import Sheet, in_order, rows
+from .write import SheetOptions, in_order, schedule_rows
 
 CRITICAL = "critical"
 TABLE = "float.csv"  # in the folder of records
@@ -31,10 +31,14 @@ class Total:
     jobs: int
     start: Start
 
+    def of(self, opened: ProjectFile, starts: tuple[int, ...]) -> TotalFloat:
+        clock = Clock(self.seconds).listen()
+        return total_float(begin_with(opened, self.start), starts, Psprove(clock, opened.path), self.jobs)
 
-def table(opened: ProjectFile, answer: JudgedStarts, found: dict[int, Window], total: TotalFloat | None) -> list[list[object]]:
+
+def float_rows(opened: ProjectFile, answer: JudgedStarts, found: dict[int, Window], total: TotalFloat | None) -> list[list[object]]:
     """The rows of `plan write`, each with its free float, and perhaps with its total float."""
-    head, *below = rows(opened, answer.starts)
+    head, *below = schedule_rows(opened, answer.starts)
     dated = opened.calendar is not None
     head += ["earliest", "latest", "free float", *(["earliest day", "latest day"] if dated else [])]
     head += ["latest of all", "total float", CRITICAL, *(["latest day of all"] if dated else [])] if total is not None else []
@@ -51,7 +55,7 @@ def table(opened: ProjectFile, answer: JudgedStarts, found: dict[int, Window], t
     return made
 
 
-def text(opened: ProjectFile, answer: JudgedStarts, found: dict[int, Window], total: TotalFloat | None) -> str:
+def float_text(opened: ProjectFile, answer: JudgedStarts, found: dict[int, Window], total: TotalFloat | None) -> str:
     """The same to be read, a line for each activity."""
     heads = ["start", "earliest", "latest", "free"] if total is None else ["start", "latest", "total", "free"]
     order = sorted(found, key=lambda i: (answer.starts[i], i))
@@ -75,7 +79,7 @@ def cells(opened: ProjectFile, starts: tuple[int, ...], activity: int, window: W
     return [*(opened.times(activity, time)[0] for time in times), *spare, opened.length(window.float)]
 
 
-def floats(opened: ProjectFile, given: str | None, sheet: Sheet, chart: ChartWords, wanted: Total | None) -> int:
+def floats(opened: ProjectFile, given: str | None, sheet: SheetOptions, chart: ChartWords, wanted: Total | None) -> int:
     start = wanted.start if wanted is not None else Start(None, None)
     inputs = opened.inputs() | start.inputs() | {"the answer": given or STANDARD_INPUT}
     folder = None if wanted is None else sheet.out
@@ -86,22 +90,18 @@ def floats(opened: ProjectFile, given: str | None, sheet: Sheet, chart: ChartWor
     psmax = Psmax(Clock(), opened.path)
     known = feasible(opened, read_answer(given), psmax)
     found = windows(opened.project, known.starts, psmax)
-    total = None
-    if wanted is not None:
-        clock = Clock(wanted.seconds)
-        clock.listen()
-        total = total_float(begin_with(opened, start), known.starts, Psprove(clock, opened.path), wanted.jobs)
+    total = None if wanted is None else wanted.of(opened, known.starts)
     if sheet.out is not None and total is not None:
         os.makedirs(sheet.out, exist_ok=True)
         total.write(sheet.out)
-        Sheet(os.path.join(sheet.out, TABLE), sheet.excel, sheet.separator).put(table(opened, known, found, total), opened)
+        SheetOptions(os.path.join(sheet.out, TABLE), sheet.excel, sheet.separator).put(float_rows(opened, known, found, total), opened)
     elif sheet.out is not None:
-        sheet.put(table(opened, known, found, total), opened)
+        sheet.put(float_rows(opened, known, found, total), opened)
     if chart.is_wanted:
         critical = total.critical() if total is not None else ()
         chart.show(drawing.make(opened, known.starts, known.title(), (), drawing.Details(found, critical)))
     elif sheet.out is None or total is not None:
-        print(text(opened, known, found, total), end="")
+        print(float_text(opened, known, found, total), end="")
     return 3 if total is not None and total.open() else 0
 
 

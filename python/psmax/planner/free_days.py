@@ -20,7 +20,7 @@ Days = dict[datetime.date, str]
 
 def named_days(told: str, order: str | None, first: datetime.date) -> Days:
     """What a setting says: a code such as DE-BY, or the name of a file."""
-    return public_holidays(told, first, f"holidays {told}") if CODE.fullmatch(told) else of_file(told, order, first)
+    return public_holidays(told, first, f"holidays {told}") if CODE.fullmatch(told) else days_in_file(told, order, first)
 
 
 def public_holidays(code: str, first: datetime.date, told: str) -> Days:
@@ -30,7 +30,7 @@ def public_holidays(code: str, first: datetime.date, told: str) -> Days:
     years, make = range(first.year, first.year + YEARS + 1), getattr(package, "country_holidays", package.CountryHoliday)
     name = "subdiv" if hasattr(package, "country_holidays") else "prov"
     try:
-        parts = parts_of(type(make(country, years=[first.year])))
+        parts = parts_of_country(type(make(country, years=[first.year])))
         if part is not None and part not in parts:
             raise BadInput(f"{told}: {country} has no part {part}, but {', '.join(parts) or 'none'}")
         more = {} if part is None else {"state" if name == "prov" and country in ("US", "AU") else name: part}
@@ -39,17 +39,17 @@ def public_holidays(code: str, first: datetime.date, told: str) -> Days:
         raise BadInput(f"{told}: the package holidays knows no country {country}") from None
 
 
-def parts_of(country: type) -> list[str]:
+def parts_of_country(country: type) -> list[str]:
     """The codes of its parts, by the names that versions of the package have for them."""
     return [*dict.fromkeys(one for name in ("subdivisions", "PROVINCES", "STATES") for one in getattr(country, name, ()))]
 
 
-def of_file(path: str, order: str | None, first: datetime.date) -> Days:
+def days_in_file(path: str, order: str | None, first: datetime.date) -> Days:
     """A day a line, or a range such as 2026-12-24 .. 2027-01-06, and behind it a name; or a code, whose holidays are
     added. A line that begins with # is a note."""
     days: Days = {}
     faults, count = list[str](), 0
-    for number, text in lines_of(path).items():
+    for number, text in day_lines(path).items():
         try:
             found = of_line(text, order, first, f"{path}: line {number}")
             days |= found
@@ -65,7 +65,7 @@ def of_file(path: str, order: str | None, first: datetime.date) -> Days:
     return days
 
 
-def lines_of(path: str) -> dict[int, str]:
+def day_lines(path: str) -> dict[int, str]:
     """Those that are neither blank nor notes, by their numbers."""
     text = read_text(path)
     if len(text) > MOST_SIGNS:

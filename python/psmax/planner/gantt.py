@@ -6,11 +6,11 @@ from ..clock import Clock
 from ..errors import BadInput
 from ..files import STANDARD_INPUT, write_whole
 from ..psmax import Psmax
-from . import baseline, drawing
-from .answer import judged
+from . import drawing
+from .answer import judge_answer, read_baseline
 from .answer_text import read_answer
 from .drawing import Bar, Drawing, Load
-from .headline import verdict
+from .headline import describe_schedule
 from .project_file import ProjectFile
 from .window import Stretch
 
@@ -19,24 +19,24 @@ LONGEST_NAME = 40
 NUMBER = 6  # columns of a start that is a number
 
 
-def text(shown: Drawing, width: int) -> str:
+def chart_text(shown: Drawing, width: int) -> str:
     """The chart in lines: the ruler, the activities, the use of each resource, and what is not as it should be."""
     scale = drawing.round_step((shown.ends - shown.begins) / width)
     first = shown.begins // (MARK * scale) * MARK * scale
     columns = -(-(shown.ends - first) // scale)
-    wide = max([len(short(label)) for label in labels(shown)] + [0])
+    wide = max([len(cut_name(label)) for label in labels(shown)] + [0])
     when = max([NUMBER, *(len(bar.first) for bar in shown.bars)])
     column = shown.length(scale)
     column += " periods" if column.isdigit() else ""
     lines = [shown.title + (f"   (a column is {column})" if scale > 1 else "")]
     ids = max([4, *(len(bar.id) for bar in shown.bars)])
     margin = " " * (wide + when + ids + 3)
-    lines += [margin + line for line in ruler(shown, first, scale, columns)]
+    lines += [margin + line for line in ruler_lines(shown, first, scale, columns)]
     for bar in shown.bars:
-        label = f"{bar.id:>{ids}} {short(bar.name):{wide}}"
+        label = f"{bar.id:>{ids}} {cut_name(bar.name):{wide}}"
         lines.append(f"{label} {bar.first:>{when}} {bar_cells(bar, first, scale, columns)}")
     for load in shown.loads:
-        label, units = f"{'':{ids}} {short(load.name):{wide}}", f"of {load.capacity}"
+        label, units = f"{'':{ids}} {cut_name(load.name):{wide}}", f"of {load.capacity}"
         lines.append(f"{label} {units:>{when}} {load_cells(load, first, scale, columns)}")
     lines += [margin + line for line in keys(shown)]
     return "".join(line.rstrip() + "\n" for line in [*lines, *shown.notes])
@@ -58,11 +58,11 @@ def labels(shown: Drawing) -> list[str]:
     return [bar.name for bar in shown.bars] + [load.name for load in shown.loads]
 
 
-def short(name: str) -> str:
+def cut_name(name: str) -> str:
     return name if len(name) <= LONGEST_NAME else name[: LONGEST_NAME - 2] + ".."
 
 
-def ruler(shown: Drawing, first: int, scale: int, columns: int) -> list[str]:
+def ruler_lines(shown: Drawing, first: int, scale: int, columns: int) -> list[str]:
     """A line of numbers or dates, and one of marks."""
     numbers, marks = "", ""
     for column in range(0, columns, MARK):
@@ -77,9 +77,9 @@ def bar_cells(bar: Bar, first: int, scale: int, columns: int) -> str:
     brackets."""
     cells = ["."] * columns
     if bar.window is not None and bar.window.float:
-        fill(cells, "-", bar.window.earliest, bar.window.latest + bar.ends - bar.begins, first, scale)
+        fill_cells(cells, "-", bar.window.earliest, bar.window.latest + bar.ends - bar.begins, first, scale)
     sign = "=" if bar.activity is None else "*" if bar.is_critical else "#"
-    fill(cells, sign, bar.begins, bar.ends, first, scale)
+    fill_cells(cells, sign, bar.begins, bar.ends, first, scale)
     begin, end = (min((time - first) // scale, columns - 1) for time in (bar.begins, max(bar.begins, bar.ends - 1)))
     if bar.activity is None:
         cells[begin], cells[end] = "[", "]" if end > begin else "["
@@ -90,7 +90,7 @@ def bar_cells(bar: Bar, first: int, scale: int, columns: int) -> str:
     return "".join(cells)
 
 
-def fill(cells: list[str], sign: str, begins: int, ends: int, first: int, scale: int) -> None:
+def fill_cells(cells: list[str], sign: str, begins: int, ends: int, first: int, scale: int) -> None:
     for column in range((begins - first) // scale, -(-(ends - first) // scale)):
         cells[column] = sign
 
@@ -153,21 +153,22 @@ class ChartWords:
             from . import svg
             write_whole(self.svg, svg.draw(shown).encode())
         else:
-            print(text(shown, self.width), end="")
+            print(chart_text(shown, self.width), end="")
 
 
 def gantt(opened: ProjectFile, given: str | None, chart: ChartWords, before: str | None = None) -> int:
     """Draws starts that are no feasible schedule too, with their violations."""
     if before is not None and chart.svg is None:
         raise BadInput("--baseline is for a picture, which --svg names")
-    lose_none(opened.inputs() | {"the answer": given or STANDARD_INPUT} | baseline.inputs(before), [chart.svg])
+    inputs = {"the answer": given or STANDARD_INPUT} | ({} if before is None else {"the baseline": before})
+    lose_none(opened.inputs() | inputs, [chart.svg])
     chart.must_fit()
     answer = read_answer(given)
     if answer.instead:
         print(answer.instead)
         return 0
-    known = judged(opened, answer, Psmax(Clock(), opened.path))
-    lines = [] if known.value is None else verdict(opened, known.starts, known.value)
-    was = drawing.Details(was=baseline.read_baseline(opened, before))
+    known = judge_answer(opened, answer, Psmax(Clock(), opened.path))
+    lines = [] if known.value is None else describe_schedule(opened, known.starts, known.value)
+    was = drawing.Details(was=read_baseline(opened, before))
     chart.show(drawing.make(opened, known.starts, known.title(*lines[:1]), (*lines[1:], *known.violations), was))
     return 0

@@ -14,41 +14,41 @@ def headline(opened: ProjectFile, known: Known) -> list[str]:
     """One line, and a second one where activities are due. Without dates the first one has the words of psmax."""
     if known.starts is None or opened.calendar is None:
         return [known.first_line(), *due_line(opened, known.starts)]
-    return [f"{known.status()}{told(opened, known, known.starts)}", *due_line(opened, known.starts)]
+    return [f"{known.status()}{describe_answer(opened, known, known.starts)}", *due_line(opened, known.starts)]
 
 
-def verdict(opened: ProjectFile, starts: Sequence[int], value: int) -> list[str]:
+def describe_schedule(opened: ProjectFile, starts: Sequence[int], value: int) -> list[str]:
     """The same of a schedule that is feasible, of which nothing else is known."""
     goal = opened.project.goal
     if opened.calendar is None:
         return [f"feasible {goal.words(value)}", *due_line(opened, starts)]
-    return [f"feasible{ends(opened, starts, value)}", *due_line(opened, starts)]
+    return [f"feasible{describe_end(opened, starts, value)}", *due_line(opened, starts)]
 
 
-def called(opened: ProjectFile, value: int | None) -> str:
+def name_value(opened: ProjectFile, value: int | None) -> str:
     """What a makespan or a lateness is called: by its date, where there are dates."""
     words = Words(opened)
     if opened.calendar is None or value is None:
         return opened.project.goal.words(value)
     if opened.project.goal is Goal.LATENESS:
-        return late(words, value)
+        return describe_lateness(words, value)
     return f"{words.brief(value, value > 0)} ({words.many(value)})"
 
 
-def told(opened: ProjectFile, known: Known, starts: Sequence[int]) -> str:
+def describe_answer(opened: ProjectFile, known: Known, starts: Sequence[int]) -> str:
     value, bound, words = known.value or 0, known.bound or 0, Words(opened)
-    rest = "" if known.settled else f", at least {late(words, bound) if known.goal is Goal.LATENESS else words.many(bound)}"
-    return ends(opened, starts, value) + rest
+    rest = "" if known.settled else f", at least {describe_lateness(words, bound) if known.goal is Goal.LATENESS else words.many(bound)}"
+    return describe_end(opened, starts, value) + rest
 
 
-def ends(opened: ProjectFile, starts: Sequence[int], value: int) -> str:
+def describe_end(opened: ProjectFile, starts: Sequence[int], value: int) -> str:
     """The date, and how long that is."""
     words, last = Words(opened), max([0, *opened.project.ends([*starts])])
-    lateness = f", {late(words, value)}" if opened.project.goal is Goal.LATENESS else ""
+    lateness = f", {describe_lateness(words, value)}" if opened.project.goal is Goal.LATENESS else ""
     return f"{lateness}, ends {words.brief(last, last > 0)} ({words.many(last)})"
 
 
-def late(words: Words, value: int) -> str:
+def describe_lateness(words: Words, value: int) -> str:
     return f"{words.many(abs(value))} {'late' if value > 0 else 'early'}" if value else "on time"
 
 

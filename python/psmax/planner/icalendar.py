@@ -51,7 +51,7 @@ def event(opened: ProjectFile, activity: int, start: int, now: datetime.datetime
     begins, ends = opened.span(activity, start)
     needs = [f"{units} {names.resource(k)}" for k, units in enumerate(project.demands[activity]) if units]
     yield "BEGIN:VEVENT"
-    yield f"UID:{identity(opened, activity)}@psmax"
+    yield f"UID:{event_id(opened, activity)}@psmax"
     yield f"DTSTAMP:{now:{STAMP}}Z"
     yield f"SEQUENCE:{(now - FIRST) // SECOND}"
     if opened.calendar is not None and opened.calendar.is_by_day:
@@ -61,13 +61,13 @@ def event(opened: ProjectFile, activity: int, start: int, now: datetime.datetime
         where = "" if opened.settings.zone is None else f";TZID={opened.settings.zone}"
         yield f"DTSTART{where}:{begins:{STAMP}}"
         yield from [f"DTEND{where}:{ends:{STAMP}}"] if ends > begins else []
-    yield f"SUMMARY:{escaped(names.activities.get(activity, '') or f'activity {activity}')}"
+    yield f"SUMMARY:{escape_text(names.activities.get(activity, '') or f'activity {activity}')}"
     if needs:
-        yield f"DESCRIPTION:{escaped(', '.join(needs))}"
+        yield f"DESCRIPTION:{escape_text(', '.join(needs))}"
     yield "END:VEVENT"
 
 
-def identity(opened: ProjectFile, activity: int) -> str:
+def event_id(opened: ProjectFile, activity: int) -> str:
     """By the title of the project, or else its file and its folder, and by the name of the activity, or else its
     number."""
     path = os.path.realpath(opened.path)
@@ -85,7 +85,7 @@ def time_zone(name: str, first: datetime.datetime, last: datetime.datetime) -> I
     yield from observance(where, moments[0], moments[0])
     for begins, ends in pairwise(moments):
         if clock(where, begins) != clock(where, ends):
-            yield from observance(where, begins, change(where, begins, ends))
+            yield from observance(where, begins, find_change(where, begins, ends))
     yield "END:VTIMEZONE"
 
 
@@ -94,7 +94,7 @@ def clock(where: datetime.tzinfo, moment: datetime.datetime) -> tuple[datetime.t
     return at.utcoffset(), at.tzname()
 
 
-def change(where: datetime.tzinfo, begins: datetime.datetime, ends: datetime.datetime) -> datetime.datetime:
+def find_change(where: datetime.tzinfo, begins: datetime.datetime, ends: datetime.datetime) -> datetime.datetime:
     """The first second at which clocks go as at the end."""
     while ends - begins > SECOND:
         middle = begins + (ends - begins) // 2 // SECOND * SECOND
@@ -114,7 +114,7 @@ def observance(where: datetime.tzinfo, before: datetime.datetime, moment: dateti
     yield f"END:{kind}"
 
 
-def escaped(text: str) -> str:
+def escape_text(text: str) -> str:
     return text.replace("\\", "\\\\").replace(";", "\\;").replace(",", "\\,").replace("\n", "\\n")
 
 

@@ -9,7 +9,7 @@ from dataclasses import dataclass
 
 from ..call_files import lose_none, must_be_like
 from ..clock import Clock
-from ..cubes.folder import PROJECT, files_of, must_be_whole, write
+from ..cubes.folder import PROJECT, files_of, must_be_whole, write_file
 from ..cubes.tree import WHOLE, Tree
 from ..errors import BadInput, Failed
 from ..files import rename_whole
@@ -30,12 +30,12 @@ class Joined:
     bad: dict[str, str]
 
 
-def joined(tree: Tree, record: str, clock: Clock) -> Joined:
+def join_logs(tree: Tree, record: str, clock: Clock) -> Joined:
     """Makes the record, and has it judged; then it takes its name. What it proves stands in the folder from then on."""
     psprove, told = Psprove(clock, f"{tree.folder}"), list[str]()
     project, start = ["--project", f"{tree.folder / PROJECT}"], list[str]()
     if tree.starts is not None:
-        write(tree.folder / "start", starts_text(tree.starts))
+        write_file(tree.folder / "start", starts_text(tree.starts))
         start = ["--start", f"{tree.folder / 'start'}"]
     made = os.path.join(os.path.dirname(os.path.realpath(record)), f".plan-{secrets.token_hex(8)}")
     try:
@@ -48,7 +48,7 @@ def joined(tree: Tree, record: str, clock: Clock) -> Joined:
     finally:
         for left in (made, f"{made}.part"):
             pathlib.Path(left).unlink(missing_ok=True)
-    write(tree.folder / "proved", f"{says}\n".encode())
+    write_file(tree.folder / "proved", f"{says}\n".encode())
     found = {match[1].strip("-"): match[2] for match in map(BAD.fullmatch, told) if match is not None}
     return Joined(says, {name: fault for name, fault in found.items() if fault != OPEN or name in tree.refuted})
 
@@ -73,9 +73,8 @@ def join(folder: str, record: str | None) -> int:
     tree, place = Tree(pathlib.Path(folder)), place_of(folder, record)
     if not tree.logs:
         raise BadInput(f"{folder}: no cube has ended yet, so there is nothing to join")
-    clock = Clock()
-    clock.listen()
-    found = joined(tree, place, clock)
+    clock = Clock().listen()
+    found = join_logs(tree, place, clock)
     print(f"{place}: {found.says}, of {tree.folder / PROJECT}")
     for name, fault in found.bad.items():
         print(f"plan: cube {name or WHOLE}: {printable(fault)}; it is left out", file=sys.stderr)

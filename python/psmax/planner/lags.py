@@ -13,7 +13,7 @@ from ..model import Group
 from ..project import MOST_UNITS, Arc
 from .columns import Column
 from .faults import CellFault, Faults
-from .quantities import NUMBER, WORDS, Length, Unit, number, read_length
+from .quantities import NUMBER, WORDS, Length, Unit, number_text, read_length
 from .rows import Row
 
 START = "start"  # the start of the project, as something to come after
@@ -97,8 +97,8 @@ class Lags:
         if low is not None and high is not None and low.unit == high.unit and high.value < low.value:
             raise row.fault(Column.AT_MOST, f"at most {row.cell(Column.AT_MOST)} is less than at least "
                             f"{row.cell(Column.AT_LEAST) or 0}")
-        for text in names_in(row):
-            before, is_with = find(self.activities, row, text)
+        for text in split_names(row):
+            before, is_with = find_side(self.activities, row, text)
             must_be_others(row, Column.AFTER, before, own)
             if is_with:
                 self.tie(row, Column.AFTER, before, own, Length(Fraction(0), Unit.PERIODS), True)
@@ -157,7 +157,7 @@ class Lags:
         if plain is not None and not own.is_group and plain != own.numbers[0]:
             self.arcs.append(Arc(plain, own.numbers[0], self.activities.length(plain)))
             return
-        called, kind, least, most = parts_of(text, groups if text.casefold() in groups else ids)
+        called, kind, least, most = split_link(text, groups if text.casefold() in groups else ids)
         number, group = ids.get(called.casefold()), groups.get(called.casefold())
         if number is None and group is None:
             raise row.fault(column, no_predecessor(row, text, called))
@@ -185,7 +185,7 @@ class Lags:
         duration = self.activities.planned[before.numbers[0] - 1]
         periods = duration * Fraction(share[1].replace(",", ".")) / 100
         if periods.denominator != 1:
-            raise row.fault(Column.PREDECESSORS, f"'{short(text)}' is {number(periods)} periods, which are "
+            raise row.fault(Column.PREDECESSORS, f"'{short(text)}' is {number_text(periods)} periods, which are "
                             f"{row.terms.scale.name()}; write the lag as a length")
         scale = row.terms.scale
         return Length(periods * (scale.minutes if scale.period is Unit.MINUTES else 1), scale.period)
@@ -199,7 +199,7 @@ def lag(row: Row, column: Column) -> Length | None:
     return row.length(column, text or "0") if text or column is Column.AT_LEAST else None
 
 
-def names_in(row: Row) -> list[str]:
+def split_names(row: Row) -> list[str]:
     """The names of a cell, with ';' between them; one in quotes may have a ';' of its own."""
     text, found, place = row.cell(Column.AFTER), [], 0
     while place < len(text):
@@ -211,7 +211,7 @@ def names_in(row: Row) -> list[str]:
     return found + ([""] if text.endswith(";") else [])
 
 
-def find(activities: Activities, row: Row, text: str) -> tuple[Side, bool]:
+def find_side(activities: Activities, row: Row, text: str) -> tuple[Side, bool]:
     """What a text names, and whether it says `with`."""
     if text in activities.names:
         return activities.side(activities.names[text], True), False
@@ -277,7 +277,7 @@ def links_or_none(row: Row) -> list[str]:
         return []
 
 
-def parts_of(text: str, ids: Collection[str]) -> tuple[str, str, str, str | None]:
+def split_link(text: str, ids: Collection[str]) -> tuple[str, str, str, str | None]:
     """The number of a predecessor, which two ends are tied, in English, the least lag and the greatest one."""
     found = LINK.fullmatch(text)
     if found is None or text.casefold() in ids:
@@ -313,7 +313,7 @@ def shares_in(rows: Iterable[Row], own: Unit) -> list[Length]:
     durations = {row.cell(Column.ID).casefold(): row.cell(Column.DURATION) for row in rows}
     found = []
     for link in (link for row in rows if "%" in row.cell(Column.PREDECESSORS) for link in links_or_none(row)):
-        called, _, *told = parts_of(link, ())
+        called, _, *told = split_link(link, ())
         for share in (SHARE.fullmatch(text) for text in told if text is not None):
             with suppress(ValueError):
                 length = read_length(durations.get(called.casefold(), ""), own)

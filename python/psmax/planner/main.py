@@ -9,7 +9,7 @@ from typing import NoReturn
 from ..clock import end_at_once, interrupt_once
 from ..letters import printable
 from .faults import explained
-from .options import parsed
+from .options import parse_arguments
 
 INTERRUPTED = 130
 
@@ -24,7 +24,7 @@ def main(arguments: Sequence[str]) -> int:
         interrupt_once()
         return answered(arguments)
     except KeyboardInterrupt:
-        return failed(INTERRUPTED, "interrupted")
+        return tell_faults(INTERRUPTED, "interrupted")
     finally:
         end_at_once()
 
@@ -33,12 +33,12 @@ def answered(arguments: Sequence[str]) -> int:
     if sys.stderr is None:  # closed by the shell; what is told then goes nowhere
         sys.stderr = open(os.devnull, "w")
     if sys.stdout is None:
-        return failed(1, "standard output is closed")
+        return tell_faults(1, "standard output is closed")
     for stream in (sys.stdout, sys.stderr):
         if isinstance(stream, io.TextIOWrapper):
             stream.reconfigure(errors="replace")
     try:
-        options = parsed(arguments)
+        options = parse_arguments(arguments)
         status: int = options.run(options)
         sys.stdout.flush()
         return status
@@ -49,10 +49,10 @@ def answered(arguments: Sequence[str]) -> int:
         if isinstance(fault.__context__, KeyboardInterrupt):  # argparse fails to undo what it has not done yet
             raise fault.__context__
         status, texts = explained(fault)
-        return failed(status, *texts)
+        return tell_faults(status, *texts)
 
 
-def failed(status: int, *texts: str) -> int:
+def tell_faults(status: int, *texts: str) -> int:
     for text in texts:
         print("plan: " + printable(" ".join(text.splitlines())), file=sys.stderr)
     return status

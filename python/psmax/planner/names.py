@@ -71,7 +71,7 @@ def cell_text(cell: str) -> str:
     return "".join(sign if sign.isprintable() else " " for sign in cell.replace("\\|", "|")).strip()
 
 
-def page(title: str, project: Numbers, names: Names) -> str:
+def names_page(title: str, project: Numbers, names: Names) -> str:
     """The page of a project that was read from a table."""
     lines = [f"# {title}", "", f"The numbers, names and demands of `{title}.sch`. {MADE.format(names.source)}",
              DIGEST.format(names.digest), ""]

@@ -14,12 +14,12 @@ from .. import __version__
 from ..project import Arc, Goal
 from ..total import TotalFloat
 from . import drawing
-from .chart import LOAD, NOT_KNOWN, ROW, STYLE, Chart, definitions, group, mark, markup
+from .chart import LOAD, NOT_KNOWN, ROW, STYLE, Chart, definitions, holding, mark, markup
 from .drawing import Bar, Drawing
 from .headline import MISSED
 from .project_file import ProjectFile
 from .page_tables import Tables
-from .read_back import first_line
+from .read_back import opening_lines
 from .window import Window
 from .wording import Words
 
@@ -74,9 +74,9 @@ class Page:
             self.project.arcs, starts, self.words)
         return {
             "headline": markup(*self.headline()), "made": escape(self.made()),
-            "read": escape(" ".join(first_line(self.opened))), "facts": markup(*self.facts()),
+            "read": escape(" ".join(opening_lines(self.opened))), "facts": markup(*self.facts()),
             "proof": markup(*in_code(self.view.proof)),
-            "definitions": markup(definitions(), group(chart.grid(LOAD), id="grid")),
+            "definitions": markup(definitions(), holding("g", chart.grid(LOAD), id="grid")),
             "ruler": markup(picture(chart.ruler_height, chart.ruler())),
             "arrows": markup(mark("svg", width=chart.width, height=0), picture(height, chart.grid(height), kind="behind"),
                              picture(chart.height, arrows)),
@@ -101,9 +101,8 @@ class Page:
         have one, since a thousand take long to draw."""
         kind = "load" if height == LOAD else "line" if activity is not None else "line group"
         line = mark("tr", kind) if activity is None else mark("tr", kind, data_a=activity)
-        cell = mark("td")
-        cell.append(picture(height, [mark("use", href="#grid"), *parts], said))
-        line.extend([mark("th", "", label, scope="row", title=label), cell])
+        cell = picture(height, [mark("use", href="#grid"), *parts], said)
+        line.extend([mark("th", "", label, scope="row", title=label), holding("td", [cell])])
         return line
 
     def told(self) -> dict[int, dict[str, object]]:
@@ -159,9 +158,7 @@ def key_of(bar: Bar) -> str:
 
 
 def picture(height: int, parts: Iterable[Element], said: str = "", kind: str = "") -> Element:
-    made = mark("svg", kind, width="100%", height=height, **(dict(role="img", aria_label=said) if said else {}))
-    made.extend([*parts])
-    return made
+    return holding("svg", parts, kind, width="100%", height=height, **(dict(role="img", aria_label=said) if said else {}))
 
 
 def in_code(text: str) -> list[Element]:
@@ -198,20 +195,20 @@ class More:
 def html(title: str, paper: str, parts: Mapping[str, str], told: object, is_shortest: bool = False, more: More = More()) -> str:
     """The page. A place of which nothing is said is empty."""
     quoted = json.dumps(title).replace("<", "\\3c ")
-    style = filled(file("page.css"), {"paper": paper, "quoted": quoted}, str) + STYLE + more.style
-    script = file("page.js") + more.script
-    policy = f"style-src {digest(style)}; script-src {digest(script)}{more.policy}"
-    return filled(file("page.html"), {
+    style = filled(read_part("page.css"), {"paper": paper, "quoted": quoted}, str) + STYLE + more.style
+    script = read_part("page.js") + more.script
+    policy = f"style-src {source_hash(style)}; script-src {source_hash(script)}{more.policy}"
+    return filled(read_part("page.html"), {
         **dict.fromkeys(PLACES, ""), **parts, "title": title, "policy": policy, "style": style, "script": script,
         "above": more.above, "below": more.below,
         "state": "" if is_shortest else "open", "told": json.dumps(told).replace("<", "\\u003c")}, escape)
 
 
-def file(name: str) -> str:
+def read_part(name: str) -> str:
     return (FOLDER / name).read_text("utf-8")
 
 
-def digest(text: str) -> str:
+def source_hash(text: str) -> str:
     """What a page allows of style or script: this text alone."""
     return f"'sha256-{base64.b64encode(hashlib.sha256(text.encode('utf-8', 'replace')).digest()).decode()}'"
 

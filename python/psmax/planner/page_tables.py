@@ -4,7 +4,7 @@ from xml.etree.ElementTree import Element
 
 from ..project import Arc
 from ..total import TotalFloat
-from .chart import mark
+from .chart import holding, mark
 from .drawing import Bar, Drawing
 from .project_file import ProjectFile
 from .wording import Words
@@ -55,8 +55,8 @@ class Tables:
     def rows(self) -> Iterable[tuple[Bar, Element]]:
         """Each activity with its cells."""
         for bar, *cells in zip(self.activities, *self.columns.values()):
-            yield bar, filled("tr", (mark("td", "", text, data_key=key) for text, key in cells), "activity",
-                              data_a=f"{bar.activity}")
+            yield bar, holding("tr", (mark("td", "", text, data_key=key) for text, key in cells), "activity",
+                               data_a=f"{bar.activity}")
 
     def needs(self, activity: int) -> str:
         demands = enumerate(self.opened.project.demands[activity])
@@ -75,12 +75,12 @@ class Tables:
         for bar in (bar for bar in self.activities if bar.is_critical and bar.activity is not None):
             holds = [mark("div", "", text) for text in self.held(bar.activity or 0)]
             texts = bar.id, bar.name, bar.first, bar.last, self.opened.length(bar.ends - bar.begins)
-            rows.append(filled("tr", [*(mark("td", "", text) for text in texts), filled("td", holds)]))
+            rows.append(holding("tr", [*(mark("td", "", text) for text in texts), holding("td", holds)]))
         names = "ID" if self.opened.names.ids else "No.", "Activity", *self.dated(), "takes", "held by"
-        head = filled("thead", [filled("tr", [mark("th", "", name) for name in names])])
-        table = filled("table", [head, filled("tbody", rows)], aria_label="Critical chain")
+        head = holding("thead", [holding("tr", [mark("th", "", name) for name in names])])
+        table = holding("table", [head, holding("tbody", rows)], aria_label="Critical chain")
         more = [mark("p", "", OPEN % len(self.unknown))] if self.unknown else []
-        return [mark("h2", "", "Critical chain"), *more, filled("div", [table], "wide")] if rows else []
+        return [mark("h2", "", "Critical chain"), *more, holding("div", [table], "wide")] if rows else []
 
     def uses(self) -> Iterable[Element]:
         """The use of each resource, and what of it is away, as a table."""
@@ -90,7 +90,7 @@ class Tables:
             for begins, ends, used, away in sorted(told):
                 times = self.words.time(begins), self.words.by(ends)
                 texts = [load.name, *times, used or "", away or "", load.capacity]
-                yield filled("tr", (mark("td", "", f"{text}") for text in texts))
+                yield holding("tr", (mark("td", "", f"{text}") for text in texts))
 
     def card(self, bar: Bar) -> list[str]:
         """Of an activity: its dates, its floats, what it needs, and what holds it."""
@@ -120,9 +120,3 @@ class Tables:
                 why = "outside its hours" if project.is_off(resource, start - 1) else f"in use: {', '.join(by)}"
                 told.append(f"{units} of {words.names.resource(resource)}, until then {why}")
         return told
-
-
-def filled(tag: str, parts: Iterable[Element], kind: str = "", **places: str) -> Element:
-    made = mark(tag, kind, "", **places)
-    made.extend([*parts])
-    return made

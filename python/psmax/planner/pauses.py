@@ -65,7 +65,7 @@ class Cuts:
         names = [f"{row.cell(Column.NAME)} ({number} of {count})" for number in range(1, count + 1)]
         found = Cut(row, names, crew, shift)
         self.found.append(found)
-        return [part(found, number, min(shift, duration - shift * number)) for number in range(count)]
+        return [cut_part(found, number, min(shift, duration - shift * number)) for number in range(count)]
 
     def shifts(self, crew: frozenset[int], time: int | None = None) -> list[Stretch]:
         """Those within some weeks after a time. The first and the last one may be cut."""
@@ -111,7 +111,7 @@ def steps_between(shifts: Sequence[Stretch]) -> set[int]:
     return {later - sooner for (sooner, _), (later, _) in zip(shifts, shifts[1:])}
 
 
-def part(cut: Cut, number: int, periods: int) -> Row:
+def cut_part(cut: Cut, number: int, periods: int) -> Row:
     """The lags and dates of the row's start are those of the first part, the dates of its end those of the last."""
     row, scale = cut.row, cut.row.terms.scale
     unit = {Unit.MINUTES: "min", Unit.DAYS: "d", Unit.WEEKS: "w"}.get(scale.period, "periods")

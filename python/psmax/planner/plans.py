@@ -16,15 +16,15 @@ from ..record import record_in
 from ..total import TotalFloat
 from .answer import feasible
 from .answer_text import AnswerText, Begin, answer_of
-from .compare import Move, Side, as_before, moves, totals
+from .compare import Move, ComparedPlan, as_before, moves, totals
 from .csv_text import write_sheet
 from .headline import headline
 from .page import View
 from .project_file import ProjectFile
-from .report import digest, headline_of, page_of, proof
-from .verify import judged
+from .report import describe_digest, headline_of, render_page, proof
+from .verify import judge_record
 from .window import Window, windows
-from .write import rows
+from .write import schedule_rows
 
 
 @dataclass(frozen=True)
@@ -81,10 +81,10 @@ class Plan:
         told = f"A schedule of {known.goal.words(known.value)} is known, and psprove has proved that none is "
         return told + ("shorter." if known.settled else f"shorter than {known.goal.words(known.bound)}.")
 
-    def side(self) -> Side | None:
+    def side(self) -> ComparedPlan | None:
         """The plan before, beside this table; none where its times are none of this table's periods."""
         try:
-            return None if self.before is None else Side(self.before.given(), self.opened, self.before.opened)
+            return None if self.before is None else ComparedPlan(self.before.given(), self.opened, self.before.opened)
         except BadInput:
             return None
 
@@ -101,12 +101,12 @@ class Plan:
         side, schedule = self.side(), self.schedule
         if side is None or schedule is None:
             return [], []
-        now = Side(schedule.given(), self.opened)
+        now = ComparedPlan(schedule.given(), self.opened)
         found = moves(side, now)
         return [*totals(side, now), as_before(found, now)], found
 
 
-def keep(plan: Plan | None) -> list[str]:
+def keep_plan(plan: Plan | None) -> list[str]:
     """Writes the answer, the record, the page and a copy of the table beside that, with its mode, and the time in their
     names, which it returns. What they hold is judged first: the schedule by psmax, and the record by `verify`."""
     if plan is None or plan.known.starts is None:
@@ -123,16 +123,16 @@ def keep(plan: Plan | None) -> list[str]:
 def contents(plan: Plan, stem: str) -> dict[str, bytes]:
     """What each file holds, by its name. A record that `verify` doesn't accept is not kept."""
     opened, starts, psmax = plan.opened, plan.known.starts or (), Psmax(Clock(), plan.opened.path)
-    table = write_sheet(rows(opened, starts, with_dates=False)).encode()
+    table = write_sheet(schedule_rows(opened, starts, with_dates=False)).encode()
     answer, found, files = feasible(opened, answer_of(table, f"{stem}.csv"), psmax), None, {f"{stem}.csv": table}
     if plan.known.record is not None:
         record = record_in(plan.known.record, plan.project)
         which = opened.path if plan.project == opened.project else f"{opened.path} that keeps what has started"
         with suppress(Failed):
-            judgement = judged(record, os.path.basename(f"{stem}.record"), which)
+            judgement = judge_record(record, os.path.basename(f"{stem}.record"), which)
             if not judgement.wrong:
                 found, files[f"{stem}.record"] = judgement, record.data
     view = View(opened, starts, proof(answer, found), found is not None and found.bound == answer.value,
                 plan.windows or windows(opened.project, starts, psmax), plan.total, headline=headline_of(answer, found, opened),
-                digest=digest(found))
-    return files | {f"{stem}.html": page_of(view, "A4"), f"{stem}-table.csv": opened.text.encode()}
+                digest=describe_digest(found))
+    return files | {f"{stem}.html": render_page(view, "A4"), f"{stem}-table.csv": opened.text.encode()}

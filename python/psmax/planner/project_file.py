@@ -8,7 +8,7 @@ from dataclasses import dataclass, field, replace
 from ..calendars import Calendar
 from ..clock import Clock
 from ..crew_hours import Crews
-from ..date_style import decimal_sign, style_of
+from ..dates import decimal_sign, style_of
 from ..errors import BadInput
 from ..files import SPREADSHEET, decoded, is_in_code_page, read_bytes, read_text, without_blank_rows
 from ..formats import FORMATS, must_be_readable, read

@@ -47,10 +47,10 @@ class Length:
     unit: Unit
 
     def __str__(self) -> str:
-        return f"{number(self.value)} {self.unit.value}"
+        return f"{number_text(self.value)} {self.unit.value}"
 
 
-def number(value: Fraction) -> str:
+def number_text(value: Fraction) -> str:
     return f"{value.numerator}" if value.denominator == 1 else f"{float(value):.6f}".rstrip("0")
 
 
@@ -173,7 +173,7 @@ class Scale:
             return f"{periods} {self.period.value[0]}"
         for word, minutes in (("d", None if self.has_hours else self.day), ("h", 60)):
             if minutes and 1000 % Fraction(self.minutes, minutes).denominator == 0:
-                return f"{number(Fraction(periods * self.minutes, minutes))} {word}"
+                return f"{number_text(Fraction(periods * self.minutes, minutes))} {word}"
         return f"{periods * self.minutes} min"
 
 

@@ -9,21 +9,21 @@ from ..api import Project
 from ..call_files import lose_none
 from ..clock import Clock
 from ..errors import BadInput
-from ..files import DASH, SPREADSHEET, decoded, read_bytes, read_text, without_blank_rows, write_whole
+from ..files import DASH, MARK, SPREADSHEET, decoded, read_bytes, read_text, read_there, without_blank_rows, write_whole
 from ..letters import printable
 from ..project import Goal, too_needy
 from ..project_text import ProjectText
 from ..psmax import Psmax
 from .answer_text import answer_sheet
-from .names import MADE, page, read_page
+from .names import MADE, names_page, read_page
 from .project_file import PROJECT, ProjectFile, is_other, of_table, open_table, page_of
+from .read_back import count_of
 from .settings import Settings, from_rows
 from .table import read_table
 from .table_parts import as_parts
 from .wording import Words
 
 PSPLIB = ".sch"
-MARK = b"\xef\xbb\xbf"  # the byte order mark of UTF-8
 OTHERS = {suffix for one in formats.FORMATS.values() for suffix in one.suffixes} - {PSPLIB}  # of other formats' files
 CTRL_Z = b"\x1a"  # the end of a file to old systems
 OURS = "psmax reads the .sch files of the single-mode sets of RCPSP/max"
@@ -34,7 +34,7 @@ def read(path: str, out: str | None, wanted: str | None, words: Settings) -> int
     """By what the file holds; a name that ends in .sch says that it is none of a table."""
     data = without_blank_rows(read_bytes(path))
     if wanted is None and out is not None and pathlib.Path(out).suffix.lower() in OTHERS:
-        wanted = formats.of_file(out)
+        wanted = formats.format_of_file(out)
     if data.startswith(SPREADSHEET):
         return read_activities(path, out, words) if wanted in (None, "sch") else convert_table(path, out, f"{wanted}", words)
     formats.must_be_readable(path, data)
@@ -54,17 +54,17 @@ def convert(path: str, out: str | None, wanted: str) -> int:
     lose_none({"the project": path}, [out])
     project = Project()
     formats.read(read_bytes(path), project, path)
-    return put(path, project, out, wanted)
+    return put_project(path, project, out, wanted)
 
 
 def convert_table(path: str, out: str | None, wanted: str, words: Settings) -> int:
     """The same of a table, with its names."""
     opened = open_table(path, words)
     lose_none(opened.inputs(), [out])
-    return put(path, as_parts(opened), out, wanted)
+    return put_project(path, as_parts(opened), out, wanted)
 
 
-def put(path: str, project: Project, out: str | None, wanted: str) -> int:
+def put_project(path: str, project: Project, out: str | None, wanted: str) -> int:
     try:
         data = project.text(wanted).encode()
     except BadInput as fault:
@@ -72,8 +72,8 @@ def put(path: str, project: Project, out: str | None, wanted: str) -> int:
     if out is None:
         sys.stdout.buffer.write(data)
         return 0
-    there = read_bytes(out).decode("utf-8-sig", "replace") if os.path.isfile(out) else ""
-    if there.strip() and not formats.named(wanted).is_like(there):
+    there = read_there(out).decode("utf-8-sig", "replace")
+    if there.strip() and not formats.format_named(wanted).is_like(there):
         raise BadInput(f"{out} is there, and no project of the format {wanted}, and would be lost; name another file with "
                        "--out")
     write_whole(out, data)
@@ -94,7 +94,7 @@ def read_activities(path: str, out: str | None, words: Settings) -> int:
     lose_none({"the table": path} | words.files(), [target, named])
     source = printable(os.path.relpath(path, os.path.dirname(named) or "."))
     there = read_bytes(named) if os.path.exists(named) else None
-    must_be_ours(target, named, source, there, out is not None)
+    must_be_made_of(target, named, source, there, out is not None)
     told = Settings() if there is None else from_rows(read_page(there).settings, os.path.dirname(named))
     words = words.over(told)
     found = read_table(path, text, words, os.path.dirname(path))
@@ -106,24 +106,20 @@ def read_activities(path: str, out: str | None, words: Settings) -> int:
     names.settings = (found.settings if words.first is not None else words).rows(os.path.dirname(named))
     least = Psmax(Clock(), path).earliest(opened.project)
     write_whole(target, spelled.text)
-    write_whole(named, page(printable(pathlib.Path(target).stem), opened.project, names).encode())
-    sizes = [f"{opened.project.end - 1} activities", many(len(opened.project.capacities), "resource"),
-             many(len(opened.project.arcs), "lag")]
-    sizes += [many(len(opened.project.absences), "absence")] if opened.project.absences else []
+    write_whole(named, names_page(printable(pathlib.Path(target).stem), opened.project, names).encode())
+    sizes = [count_of(opened.project.end - 1, "activity"), count_of(len(opened.project.capacities), "resource"),
+             count_of(len(opened.project.arcs), "lag")]
+    sizes += [count_of(len(opened.project.absences), "absence")] if opened.project.absences else []
     print(f"{target}: {', '.join(sizes)}; names in {named}")
     print(*found.notes, *said_of_text(spelled), *said_of_dates(opened), what_is_clear(least, opened), sep="\n")
     return 0
-
-
-def many(count: int, what: str) -> str:
-    return f"{count} {what}" + ("" if count == 1 else "s")
 
 
 def said_of_text(spelled: ProjectText) -> list[str]:
     """What its own numbers mean, where they aren't those of the table."""
     hidden, goal = len(spelled.hidden), spelled.project.goal.value
     kind = "absences and times outside the hours of resources" if spelled.project.off else "absences"
-    told = [f"Its last {many(hidden, 'activity') if hidden == 1 else f'{hidden} activities'} before the end are {kind}."]
+    told = [f"Its last {count_of(hidden, 'activity')} before the end are {kind}."]
     return (told if hidden else []) + ([f"Its end starts {spelled.offset} after the {goal}."] if spelled.offset else [])
 
 
@@ -136,7 +132,7 @@ def said_of_dates(opened: ProjectFile) -> list[str]:
     return known + less
 
 
-def must_be_ours(target: str, named: str, source: str, there: bytes | None, is_named: bool) -> None:
+def must_be_made_of(target: str, named: str, source: str, there: bytes | None, is_named: bool) -> None:
     """A project and a page that stand there are replaced where they were made of the same table; a project also where
     it is named."""
     ours = there is not None and MADE.format(source) in there.decode("utf-8", "replace")
@@ -148,7 +144,7 @@ def must_be_ours(target: str, named: str, source: str, there: bytes | None, is_n
 
 def must_be_project(path: str) -> None:
     """A plan, a record or a table that is there stays."""
-    there = read_bytes(path) if os.path.isfile(path) else b""
+    there = read_there(path)
     if there.strip() and not PROJECT.match(there.removeprefix(MARK)):
         raise BadInput(f"{path} is there, and no project, and would be lost; name another file with --out")
 

@@ -6,16 +6,14 @@ from collections.abc import Iterator
 from dataclasses import fields
 
 from ..calendars import DAY, Calendar, Days, Shifts, at_midnight
-from ..date_style import weekday
-from ..dates import DAYS as NAMES_OF_DAYS
-from ..dates import MIDNIGHT
+from ..dates import SHORT_DAYS, day_ranges, span_text, weekday
 from ..project import Arc, least_starts
 from .above import Above
 from .columns import column_of
 from .csv_text import letters
 from .project_file import ProjectFile
 from .free_days import CODE
-from .settings import Settings, called, named_holidays
+from .settings import Settings, row_name, named_holidays
 from .wording import Words
 
 NOT_BEFORE = "'not before'"
@@ -28,21 +26,21 @@ GERMAN = ("mo", "di", "mi", "do", "fr", "sa", "so")
 def read_back_line(file: ProjectFile) -> str:
     """What there is, the calendar and the dates; behind the semicolon figures by which a misread cell shows."""
     project = file.project
-    groups = f" in {many(len(file.groups), 'group')}" if file.groups else ""
-    told = [f"{many(project.end - 1, 'activity')}{groups}"]
+    groups = f" in {count_of(len(file.groups), 'group')}" if file.groups else ""
+    told = [f"{count_of(project.end - 1, 'activity')}{groups}"]
     if project.capacities:
-        told.append(f"{many(len(project.capacities), 'resource')} of {many(sum(project.capacities), 'unit')}")
-    told += [calendar(file), *hours(file)]
-    told += [many(len(project.absences), "absence")] if project.absences else []
+        told.append(f"{count_of(len(project.capacities), 'resource')} of {count_of(sum(project.capacities), 'unit')}")
+    told += [describe_calendar(file), *describe_hours(file)]
+    told += [count_of(len(project.absences), "absence")] if project.absences else []
     return f"{', '.join([*told, *dates(file)])}; {', '.join(figures(file))}"
 
 
-def first_line(file: ProjectFile) -> list[str]:
+def opening_lines(file: ProjectFile) -> list[str]:
     """The line with which a command begins; none for a text of numbers, in which a planner has written nothing."""
     return [read_back_line(file)] if file.table is not None or file.calendar is not None else []
 
 
-def many(count: int, what: str) -> str:
+def count_of(count: int, what: str) -> str:
     several = {"activity": "activities"}.get(what, f"{what}s")
     return f"{count} {what if count == 1 else several}"
 
@@ -58,9 +56,9 @@ def figures(file: ProjectFile) -> Iterator[str]:
     between = [arc for arc in file.project.arcs[: file.changeable()] if arc.tail and arc.head]
     least, most = ([arc for arc in between if is_greatest(file, arc) == kind] for kind in (False, True))
     waits = sum(beyond(file, arc.tail, arc.lag) for arc in least)
-    yield many(len(least), "lag") + (f" of {words.many(waits)}" if waits else "")
+    yield count_of(len(least), "lag") + (f" of {words.many(waits)}" if waits else "")
     if most:
-        yield f"{many(len(most), 'maximum lag')} of {words.many(sum(beyond(file, arc.head, -arc.lag) for arc in most))}"
+        yield f"{count_of(len(most), 'maximum lag')} of {words.many(sum(beyond(file, arc.head, -arc.lag) for arc in most))}"
     least += file.table.pauses if file.table is not None else ()
     inner, tails, heads = {*range(1, project.end)}, {arc.tail for arc in least}, {arc.head for arc in least}
     yield f"{len(inner - heads)} first and {len(inner - tails)} last activities"
@@ -85,54 +83,39 @@ def beyond(file: ProjectFile, before: int, lag: int) -> int:
     return lag - duration if lag >= duration else lag
 
 
-def calendar(file: ProjectFile) -> str:
+def describe_calendar(file: ProjectFile) -> str:
     """From when on there is work, on which days and in which hours, and how many holidays there are."""
     found = file.calendar
     if found is None:
         return "no dates"
     days = found.days if isinstance(found, Shifts) else found
     text = f"from {found.style.short(found.begins(0))}"
-    text += f", {workdays(file, days.workdays)}" if isinstance(days, Days) else ", around the clock"
+    text += f", {describe_workdays(file, days.workdays)}" if isinstance(days, Days) else ", around the clock"
     if isinstance(found, Shifts):
-        text += " " + ",".join(f"{clock(begins)}-{clock(ends)}" for begins, ends in found.shift)
+        text += " " + ",".join(map(span_text, found.shift))
     if CODE.fullmatch(file.settings.holidays or ""):
         return f"{text}, holidays of {file.settings.holidays}"
-    return text + (f", {many(len(found.holidays_of()), 'holiday')}" if found.holidays_of() else "")
+    return text + (f", {count_of(len(found.holidays_of()), 'holiday')}" if found.holidays_of() else "")
 
 
-def hours(file: ProjectFile) -> Iterator[str]:
+def describe_hours(file: ProjectFile) -> Iterator[str]:
     """Those of each resource that has its own, and up to when they are known."""
     crews = file.crews
     if crews is None or file.project.horizon is None:
         return
     for number, one in crews.hours.items():
-        spans = ",".join(f"{clock(begins)}-{clock(ends % MIDNIGHT or MIDNIGHT)}" for begins, ends in one.spans)
-        days = "" if one.days is None else workdays(file, one.days, one.text)
+        spans = ",".join(map(span_text, one.spans))
+        days = "" if one.days is None else describe_workdays(file, one.days, one.text)
         yield " ".join([file.names.resource(number), *([days] if days else []), *([] if spans == ALL_DAY else [spans])])
     yield f"hours up to {Words(file).brief(file.project.horizon, True)}"
 
 
-def workdays(file: ProjectFile, days: frozenset[int], text: str | None = None) -> str:
+def describe_workdays(file: ProjectFile, days: frozenset[int], text: str | None = None) -> str:
     """Days of the week, in the language in which the table names them."""
     told = (text or file.settings.workdays or "").lower().replace("\u2013", "-").replace("-", ",").split(",")
     is_german = all(one.strip(" .") in GERMAN or one.strip(" .").endswith(("tag", "woch", "abend")) for one in told)
-    names = [one.capitalize() for one in GERMAN] if is_german else [one[0].capitalize() for one in NAMES_OF_DAYS]
-    if len(days) == 7:
-        return "every day"
-    runs = [day for day in sorted(days) if (day - 1) % 7 not in days]
-    return ",".join(run(days, first, names) for first in runs)
-
-
-def run(days: frozenset[int], first: int, names: list[str]) -> str:
-    """Days one after another, as the first and the last of them."""
-    last = first
-    while (last + 1) % 7 in days:
-        last = (last + 1) % 7
-    return names[first] if last == first else f"{names[first]}-{names[last]}"
-
-
-def clock(minutes: int) -> str:
-    return f"{minutes // 60:02}:{minutes % 60:02}"
+    names = [one.capitalize() for one in GERMAN] if is_german else [one.capitalize() for one in SHORT_DAYS]
+    return "every day" if len(days) == 7 else day_ranges(days, names)
 
 
 def dates(file: ProjectFile) -> Iterator[str]:
@@ -155,10 +138,10 @@ def dates(file: ProjectFile) -> Iterator[str]:
 
 def read_back(file: ProjectFile) -> list[str]:
     """All that `plan check` says of a table without an answer."""
-    lines = [read_back_line(file), *file.notes, *below("columns", columns(file)), *below("settings", settings_read(file))]
+    lines = [read_back_line(file), *file.notes, *put_under("columns", columns(file)), *put_under("settings", settings_read(file))]
     if file.calendar is not None:
-        lines += weeks(file, file.calendar) + below("holidays of the first year", free_days(file, file.calendar))
-    return lines + below("absences", absences(file))
+        lines += weeks(file, file.calendar) + put_under("holidays of the first year", free_days(file, file.calendar))
+    return lines + put_under("absences", describe_absences(file))
 
 
 def columns(file: ProjectFile) -> list[str]:
@@ -166,14 +149,14 @@ def columns(file: ProjectFile) -> list[str]:
     found = file.table.columns if file.table is not None else None
     if found is None:
         return []
-    said = {place: f"resource, {many(units, 'unit')}" for place, units in zip(found.resources, file.project.capacities)}
+    said = {place: f"resource, {count_of(units, 'unit')}" for place, units in zip(found.resources, file.project.capacities)}
     said |= {place: kind.value for place, kind in enumerate(map(column_of, found.heads)) if kind and place not in said}
     heads = [(place, head) for place, head in enumerate(found.heads) if head]
     wide = max(len(head) for _, head in heads)
     return [f"{letters(place):2} {head:{wide}}  {said.get(place, 'passed over')}" for place, head in heads]
 
 
-def below(head: str, lines: list[str]) -> list[str]:
+def put_under(head: str, lines: list[str]) -> list[str]:
     """The lines under a heading; nothing where there are none."""
     return [f"{head}:", *(f"  {line}" for line in lines)] if lines else []
 
@@ -181,7 +164,7 @@ def below(head: str, lines: list[str]) -> list[str]:
 def settings_read(file: ProjectFile) -> list[str]:
     """Each setting, with the row that says it; without where the command line or a page does."""
     rows = dict(settings_rows(file.table.above, file.settings)) if file.table is not None else {}
-    told = [(called(field.name), getattr(file.settings, field.name)) for field in fields(file.settings)]
+    told = [(row_name(field.name), getattr(file.settings, field.name)) for field in fields(file.settings)]
     found = [(name, text, f"   row {rows[name]}" if name in rows else "") for name, text in told if text is not None]
     wide = max([0, *(len(name) for name, _, _ in found)])
     return [f"{name:{wide}}  {text}{row}" for name, text, row in found]
@@ -192,7 +175,7 @@ def settings_rows(above: Above, settings: Settings) -> Iterator[tuple[str, int]]
     for field in fields(settings):
         text = getattr(above.settings, field.name)
         if text is not None and text == getattr(settings, field.name):
-            yield called(field.name), above.rows[called(field.name)]
+            yield row_name(field.name), above.rows[row_name(field.name)]
 
 
 def weeks(file: ProjectFile, found: Calendar) -> list[str]:
@@ -221,7 +204,7 @@ def of_day(file: ProjectFile, found: Calendar, day: datetime.datetime) -> str:
     return ("yes" if found.is_by_day else file.length(ends - begins)) if is_work else "-"
 
 
-def absences(file: ProjectFile) -> list[str]:
+def describe_absences(file: ProjectFile) -> list[str]:
     """What is away from which day to which, by the first."""
     words, project = Words(file), file.project
     found = sorted(project.absences, key=lambda one: (one.begins, one.resource))

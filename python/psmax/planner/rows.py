@@ -13,7 +13,7 @@ from ..project import MOST_UNITS
 from .columns import Column, Columns
 from .csv_text import cell
 from .faults import CellFault, fault_at
-from .quantities import Length, Scale, Unit, day_of_serial, number, read_length, time_after
+from .quantities import Length, Scale, Unit, day_of_serial, number_text, read_length, time_after
 
 DATED = (Column.STARTED, Column.FINISHED, Column.NOT_BEFORE, Column.END_BY, Column.DUE)
 MONTHS = "jan feb mar mär mrz apr may mai jun jul aug sep oct okt nov dec dez"
@@ -98,7 +98,7 @@ class Row:
         if not length.value:
             return 0
         if scale.is_vague(length):
-            raise self.fault(column, f"{number(length.value)} of what? Durations have units; write {instead}")
+            raise self.fault(column, f"{number_text(length.value)} of what? Durations have units; write {instead}")
         try:
             found = scale.periods(length)
         except ValueError:
@@ -263,7 +263,7 @@ def is_summary(rows: Sequence[Row], depth: Sequence[int], place: int) -> bool:
     return bool(code) and below.startswith(code.rstrip(".") + ".")
 
 
-def groups(rows: Sequence[Row], depth: Sequence[int], summaries: Sequence[bool]) -> list[Group]:
+def groups_of(rows: Sequence[Row], depth: Sequence[int], summaries: Sequence[bool]) -> list[Group]:
     """Each with the rows below that stand deeper, or, where nothing says how deep, up to the next group."""
     stops = next_above(depth if len({*depth}) > 1 else [not one for one in summaries])
     before = [*accumulate((not one for one in summaries), initial=0)]  # how many activities stand before each row

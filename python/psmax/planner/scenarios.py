@@ -14,7 +14,7 @@ from .columns import Column, count_heads, is_head
 from .csv_text import Sheet, cell, read_sheet, write_sheet
 from .lags import did_you_mean
 from .project_file import ProjectFile, of_table
-from .quantities import NUMBER, Length, Unit, number, read_length
+from .quantities import NUMBER, Length, Unit, number_text, read_length
 from .settings import Settings
 from .table import Table, read_table
 
@@ -119,7 +119,7 @@ class Scenario:
         value = {"": more.value, "+": old.value + more.value, "-": old.value - more.value}[sign]
         if value < 0:
             raise self.fault(part, f"it takes '{short(before)}'")
-        return f"{number(value)} {UNIT_WORDS[more.unit]}".strip().replace(".", self.opened.decimal)
+        return f"{number_text(value)} {UNIT_WORDS[more.unit]}".strip().replace(".", self.opened.decimal)
 
     def column(self, table: Table) -> int:
         return table.columns.places[Column.DURATION]

@@ -49,17 +49,17 @@ class Settings:
 
     def rows(self, folder: str) -> dict[str, str]:
         """The same as rows of a page in this folder."""
-        told = {called(field.name): getattr(self, field.name) for field in fields(self)}
+        told = {row_name(field.name): getattr(self, field.name) for field in fields(self)}
         paths = {name: os.path.relpath(text, folder or ".") for name, text in told.items()
                  if text is not None and names_file(name, text)}
         return {name: text for name, text in {**told, **paths}.items() if text is not None}
 
 
-def called(name: str) -> str:
+def row_name(name: str) -> str:
     return "from" if name == "first" else name
 
 
-NAMES = tuple(called(field.name) for field in fields(Settings))  # as rows are called
+NAMES = tuple(row_name(field.name) for field in fields(Settings))  # as rows are called
 
 
 def from_rows(rows: Mapping[str, str], folder: str) -> Settings:

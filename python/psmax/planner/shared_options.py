@@ -18,7 +18,7 @@ MOST_JOBS = 64  # of psprove
 PROCESSORS = min(len(os.sched_getaffinity(0)), MOST_JOBS)
 
 
-def number(least: int, most: int) -> Callable[[str], int]:
+def whole_number(least: int, most: int) -> Callable[[str], int]:
     """What reads a whole number in digits, from the least to the most."""
     def read_number(text: str) -> int:
         if not re.fullmatch("-?[0-9]{1,9}", text) or not least <= int(text) <= most:
@@ -27,7 +27,7 @@ def number(least: int, most: int) -> Callable[[str], int]:
     return read_number
 
 
-def seconds(text: str) -> float:
+def number_of_seconds(text: str) -> float:
     """A number of seconds, which may be less than one."""
     if not re.fullmatch(r"[0-9]{1,7}(\.[0-9]{1,3})?", text) or not 0 < float(text) <= MOST_SECONDS:
         raise argparse.ArgumentTypeError(f"'{text}' is not a number of seconds above 0 and up to {MOST_SECONDS}")
@@ -70,8 +70,8 @@ def settings(options: argparse.Namespace) -> Settings:
 
 
 def add_limits(one: argparse.ArgumentParser) -> None:
-    one.add_argument("--seconds", type=seconds, default=SECONDS, metavar="S", help="stop after S seconds (default 60)")
-    one.add_argument("--jobs", type=number(1, MOST_JOBS), default=PROCESSORS, metavar="N",
+    one.add_argument("--seconds", type=number_of_seconds, default=SECONDS, metavar="S", help="stop after S seconds (default 60)")
+    one.add_argument("--jobs", type=whole_number(1, MOST_JOBS), default=PROCESSORS, metavar="N",
                      help="run N searches side by side (default: the number of processors)")
 
 

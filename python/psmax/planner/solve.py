@@ -21,9 +21,9 @@ from ..search import search
 from . import drawing
 from .answer_file import AnswerFile, activities_of
 from .beginning import Start, begin_with, go_on
-from .headline import called, headline
+from .headline import name_value, headline
 from .project_file import ProjectFile
-from .read_back import first_line
+from .read_back import opening_lines
 from .wording import Words
 
 if TYPE_CHECKING:
@@ -31,7 +31,7 @@ if TYPE_CHECKING:
 
 
 @dataclass(frozen=True)
-class Options:
+class SolveOptions:
     """What the words of the command say, besides what it begins with."""
 
     seconds: float
@@ -47,7 +47,7 @@ class Options:
         return Limits(self.seconds, self.jobs, is_recorded=self.record is not None)
 
 
-def solve(opened: ProjectFile, start: Start, options: Options) -> int:
+def solve(opened: ProjectFile, start: Start, options: SolveOptions) -> int:
     reads = opened.inputs() | start.inputs()
     if options.places is None:
         lose_none(reads, [options.out, options.svg, options.record])
@@ -63,12 +63,11 @@ def solve(opened: ProjectFile, start: Start, options: Options) -> int:
     if kept is not None and there is not None:
         beginning.must_keep(there, kept.path)
         schedules.append((there.starts, kept.path))
-    clock = Clock(options.seconds)
-    clock.listen()
-    for line in [*first_line(opened), *opened.notes, *beginning.told]:
+    clock = Clock(options.seconds).listen()
+    for line in [*opening_lines(opened), *opened.notes, *beginning.told]:
         tell(clock, line)
     best = Incumbent(clock, beginning.project)
-    best.called, best.line = partial(called, opened), lambda known: headline(opened, known)[0]
+    best.called, best.line = partial(name_value, opened), lambda known: headline(opened, known)[0]
     if kept is not None:
         best.better = partial(kept.put_if_possible, best)
     for starts, source in schedules:
@@ -76,7 +75,7 @@ def solve(opened: ProjectFile, start: Start, options: Options) -> int:
     try:
         if options.places is not None:
             from . import cubes
-            cubes.search(beginning, best, options.places)
+            cubes.search_in_cubes(beginning, best, options.places)
         else:
             psprove = Psprove(clock, opened.path, folder_of(options.record))
             near = start.answer or (before.called if before is not None else "")
@@ -89,7 +88,7 @@ def solve(opened: ProjectFile, start: Start, options: Options) -> int:
     return 0 if best.known.settled else 3
 
 
-def give(best: Incumbent, opened: ProjectFile, options: Options, kept: AnswerFile | None) -> None:
+def give(best: Incumbent, opened: ProjectFile, options: SolveOptions, kept: AnswerFile | None) -> None:
     """Prints what is known, and writes what was asked for. A schedule that can't be written is printed, in the lines of
     psmax, which have no room for dates; so these are told."""
     known = best.known
@@ -121,7 +120,7 @@ def as_json(known: Known, opened: ProjectFile, seconds: float) -> str:
         "bound": known.bound,
         "makespan": None if starts is None else starts[-1],
         "starts": starts,
-        "ends": ends(opened, known.starts),
+        "ends": end_text(opened, known.starts),
         "status": known.status(),
         **lateness,
         **activities_of(opened),
@@ -132,7 +131,7 @@ def as_json(known: Known, opened: ProjectFile, seconds: float) -> str:
     return json.dumps(told) + "\n"
 
 
-def ends(opened: ProjectFile, starts: tuple[int, ...] | None) -> str | None:
+def end_text(opened: ProjectFile, starts: tuple[int, ...] | None) -> str | None:
     """The date at which the last activity ends, as 2026-03-02 or with its hour; none where there are no dates."""
     if starts is None or opened.calendar is None:
         return None

@@ -20,10 +20,10 @@ def status(folder: str) -> int:
     print(tree.state())
     print(f"best schedule: {'none' if tree.starts is None else tree.starts[-1] - tree.offset}")
     print(f"bound: {bound(tree)}")
-    print(f"so far: {shown(tree.seconds)}, {shown(tree.spent)} of processors, {tree.conflicts:,} conflicts")
+    print(f"so far: {time_text(tree.seconds)}, {time_text(tree.spent)} of processors, {tree.conflicts:,} conflicts")
     left = seconds_left(tree.shares)
     if tree.waiting or tree.running:
-        print(f"left: {'no estimate has been right so far' if left is None else f'about {shown(left)}'}")
+        print(f"left: {'no estimate has been right so far' if left is None else f'about {time_text(left)}'}")
     return 0
 
 
@@ -52,7 +52,7 @@ def share_at(shares: Sequence[tuple[float, float]], time: float) -> float:
     return next(share for seconds, share in reversed(shares) if seconds <= time)
 
 
-def shown(seconds: float) -> str:
+def time_text(seconds: float) -> str:
     """With its two greatest units."""
     parts, left = list[str](), round(seconds)
     for unit, length in UNITS:

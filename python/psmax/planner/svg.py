@@ -2,7 +2,7 @@
 from collections.abc import Sequence
 from xml.etree.ElementTree import Element
 
-from .chart import LOAD, ROW, STYLE, Chart, definitions, group, mark, markup, tip
+from .chart import LOAD, ROW, STYLE, Chart, definitions, holding, mark, markup, tip
 from .drawing import Drawing
 
 TOP = 32  # pixels of the title
@@ -19,29 +19,29 @@ def draw(shown: Drawing) -> str:
     bottom = top + chart.height + LOAD * len(shown.loads)
     width, height = left + chart.width, bottom + 8 + ROW * len(shown.notes)
     picture = mark("svg", xmlns="http://www.w3.org/2000/svg", width=width, height=height, viewBox=f"0 0 {width} {height}")
-    picture.extend([mark("style", "", STYLE), definitions(), words(16, 20, shown.title, "title"),
-                    moved(left, TOP, chart.ruler()), moved(left, top, chart.grid(bottom - top))])
-    picture.extend(rows(chart, left, top))
-    picture.extend([words(16, bottom + 16 + ROW * row, note) for row, note in enumerate(shown.notes)])
+    picture.extend([mark("style", "", STYLE), definitions(), put_words(16, 20, shown.title, "title"),
+                    shift_parts(left, TOP, chart.ruler()), shift_parts(left, top, chart.grid(bottom - top))])
+    picture.extend(chart_rows(chart, left, top))
+    picture.extend([put_words(16, bottom + 16 + ROW * row, note) for row, note in enumerate(shown.notes)])
     return markup(picture) + "\n"
 
 
-def rows(chart: Chart, left: int, y: int) -> list[Element]:
+def chart_rows(chart: Chart, left: int, y: int) -> list[Element]:
     """The activities and the resources, each with its name before it."""
     found = []
     for bar in chart.shown.bars:
         kind = "title" if bar.activity is None else ""
-        found += [words(16, y + 13, bar.label, kind), moved(left, y, [tip(chart.said(bar), *chart.bar(bar))])]
+        found += [put_words(16, y + 13, bar.label, kind), shift_parts(left, y, [tip(chart.said(bar), *chart.bar(bar))])]
         y += ROW
     for load in chart.shown.loads:
-        found += [words(16, y + LOAD / 2 + 4, f"{load.name}, of {load.capacity}"), moved(left, y, chart.load(load))]
+        found += [put_words(16, y + LOAD / 2 + 4, f"{load.name}, of {load.capacity}"), shift_parts(left, y, chart.load(load))]
         y += LOAD
     return found
 
 
-def moved(x: float, y: float, parts: Sequence[Element]) -> Element:
-    return group(parts, transform=f"translate({x},{y})")
+def shift_parts(x: float, y: float, parts: Sequence[Element]) -> Element:
+    return holding("g", parts, transform=f"translate({x},{y})")
 
 
-def words(x: float, y: float, text: str, kind: str = "") -> Element:
+def put_words(x: float, y: float, text: str, kind: str = "") -> Element:
     return mark("text", kind, text, x=x, y=y)

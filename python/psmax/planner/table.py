@@ -15,8 +15,8 @@ from ..project import MOST_ACTIVITIES, MOST_ARCS, Arc, Goal, Numbers
 from ..work_time import minutes_of, moment, workdays
 from .above import Above, read_above
 from .absences import read_absences
-from .columns import LAGS, Column, Columns, count_heads, is_head, read_heads, resource
-from .crews import crews_of, lengths_between, must_fit, parts_of
+from .columns import LAGS, Column, Columns, count_heads, is_head, read_heads, split_resource
+from .crews import crews_of, lengths_between, must_fit, parts_of_day
 from .csv_text import Sheet, cell, read_sheet
 from .decimals import with_one_sign
 from .faults import Faults
@@ -25,7 +25,7 @@ from .names import Names
 from .pauses import Cuts
 from .progress import read_progress
 from .quantities import Length, Scale, Unit, read_length, scale_of, units_of
-from .rows import Row, Terms, groups, is_summary, level, told_apart
+from .rows import Row, Terms, groups_of, is_summary, level, told_apart
 from .settings import HOURS_OF_WORK, Settings, calendar, checked, time_of
 
 MOST_ROWS = 10_000  # of activities, and of what more is said of them
@@ -85,11 +85,11 @@ def terms_of(file: str, sheet: Sheet, columns: Columns, settings: Settings) -> T
         [own] = units  # a column `duration` with one unit in all of its cells
     found = lengths([text for row in rows for text in lengths_in(row)], own) + shares_in(rows, own)
     found += lengths_between(columns, settings)
-    scale = scale_of(found, own, head, None if settings.shift is None else parts_of(settings), week)
+    scale = scale_of(found, own, head, None if settings.shift is None else parts_of_day(settings), week)
     is_guess = settings.shift is None and (scale is None or needs_hours(units_of(found) | {own}, named))
     if scale is None or is_guess:
         settings = replace(settings, shift=HOURS_OF_WORK)
-        scale = scale_of(found, own, head, parts_of(settings), week)
+        scale = scale_of(found, own, head, parts_of_day(settings), week)
     assert scale is not None
     if named in (Unit.DAYS.value, Unit.WEEKS.value):
         scale = replace(scale, period=Unit(named), minutes=0, is_named=True)
@@ -209,7 +209,7 @@ class Reading:
         with self.faults.kept():
             self.groups = {place: row for place, row in enumerate(self.named) if is_summary(self.named, self.depth, place)}
         self.rows = [row for place, row in enumerate(self.named) if place not in self.groups]
-        found = groups(self.named, self.depth, [place in self.groups for place in range(len(self.named))])
+        found = groups_of(self.named, self.depth, [place in self.groups for place in range(len(self.named))])
         self.parts = dict(zip(sorted(self.groups), found))
         if not self.rows:
             self.faults.tell()
@@ -310,7 +310,7 @@ class Reading:
         goal = Goal.MAKESPAN if settings.minimize is None else Goal(settings.minimize)
         if goal is Goal.LATENESS and not due:
             raise BadInput(f"{file}: to minimize the lateness some activity needs a date in a column 'due'")
-        resources = [resource(self.terms.columns.heads[place]) for place in self.terms.columns.resources]
+        resources = [split_resource(self.terms.columns.heads[place]) for place in self.terms.columns.resources]
         none = (0,) * len(resources)
         capacities = tuple(int(units) for _, units in resources)
         found = Numbers((0, *self.durations, 0), (none, *self.demands, none), capacities, arcs, (), due, goal)

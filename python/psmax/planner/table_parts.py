@@ -1,16 +1,14 @@
 """A table as a project by names, which other formats can write."""
-from collections.abc import Iterable, Mapping, Sequence
+from collections.abc import Iterable, Sequence
 from dataclasses import replace
 
 from ..api import Project
 from ..dated import DatedLag, ShiftLag
 from ..model import Activity, Parts, Point
-from ..project import Arc
+from ..project import Arc, leads
 from ..work_time import WorkTime
 from .project_file import ProjectFile
 from .settings import holidays
-
-Before = Mapping[int, set[int]]  # from which activities minimum lags lead to each
 
 
 def as_parts(opened: ProjectFile) -> Project:
@@ -24,7 +22,7 @@ def fill_from_table(made: Parts, opened: ProjectFile) -> None:
     """Reads it into an empty one."""
     numbers, table, settings = opened.project, opened.table, opened.settings
     assert table is not None
-    made.name, made.calendar = settings.title or "", work_time(opened)
+    made.name, made.calendar = settings.title or "", work_time_of(opened)
     units = [made.resource(opened.names.resource(k), count) for k, count in enumerate(numbers.capacities)]
     made.hours = {units[k]: hours for k, hours in table.columns.hours().items()}
     for i in range(1, numbers.end):
@@ -38,7 +36,7 @@ def fill_from_table(made: Parts, opened: ProjectFile) -> None:
     add_lags(made, dict.fromkeys(arc for arc in numbers.arcs if arc.tail or soonest[arc.head] == arc.lag), numbers.dated)
 
 
-def work_time(opened: ProjectFile) -> WorkTime | None:
+def work_time_of(opened: ProjectFile) -> WorkTime | None:
     if opened.calendar is None:
         return None
     settings, first = opened.settings, opened.calendar.begins(0)
@@ -51,7 +49,7 @@ def add_lags(made: Parts, arcs: Iterable[Arc], dated: Sequence[DatedLag]) -> Non
     """What is 0 or more is a least length. What is below 0 is a greatest one the other way round where minimum lags
     lead that way, and else a least one too. Each counts from the end of an activity where it is no shorter than
     that."""
-    before: dict[int, set[int]] = {}
+    before: dict[int, set[int]] = {}  # from which activities minimum lags lead to each
     for arc in arcs:
         if arc.lag >= 0 and arc.tail:
             before.setdefault(arc.head, set()).add(arc.tail)
@@ -63,7 +61,7 @@ def add_lags(made: Parts, arcs: Iterable[Arc], dated: Sequence[DatedLag]) -> Non
         head = made.activities[arc.head - 1] if 0 < arc.head <= len(made.activities) else None
         if tail is None or head is None:
             add_to_project(made, arc, tail, head)
-        elif arc.lag >= 0 or not leads(before, arc.head, arc.tail):
+        elif arc.lag >= 0 or not leads(lambda i: before.get(i, ()), arc.head, arc.tail):
             add_least(made, tail, head, arc.lag)
         else:
             from_end = -arc.lag >= head.duration
@@ -99,13 +97,3 @@ def add_least(made: Parts, tail: Activity, head: Activity, lag: int) -> None:
         made.lag(tail.end, head.end, at_least=0)
     else:
         made.lag(tail.start, head.start, at_least=lag)
-
-
-def leads(before: Before, first: int, last: int) -> bool:
-    """Whether minimum lags lead from one activity to another."""
-    seen, open_ones = {last}, [last]
-    while open_ones and first not in seen:
-        above = before.get(open_ones.pop(), set()) - seen
-        seen |= above
-        open_ones += above
-    return first in seen

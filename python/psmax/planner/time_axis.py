@@ -4,7 +4,7 @@ import datetime
 from collections.abc import Iterator, Sequence
 from dataclasses import dataclass
 
-from ..calendars import DAY, MINUTE, WHOLE_DAY, Calendar, at_midnight, minutes_of
+from ..calendars import DAY, MINUTE, WHOLE_DAY, Calendar, at_midnight, as_timedelta
 from ..crew_hours import DAY_SHIFT, read_hours
 from .drawing import Bar, Drawing, round_step
 
@@ -108,7 +108,7 @@ class DateAxis(Axis):
 
     def of_kind(self, kind: str) -> Iterator[Band]:
         """The last one, and the first one, may be cut."""
-        moment = begin_of(kind, self.origin + minutes_of(int(self.first)))
+        moment = begin_of(kind, self.origin + as_timedelta(int(self.first)))
         while self.place(moment) < self.last:
             after = next_of(kind, moment)
             yield Band(max(self.first, self.place(moment)), min(self.last, self.place(after)), names_of(kind, moment))

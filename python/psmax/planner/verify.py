@@ -98,14 +98,14 @@ def verdict(opened: ProjectFile, path: str, start: Start, shares: Shares | None 
     project, which = begin_with(opened, start).project, f"{opened.path}{keeps}"
     begin = b"" if shares is None else read_bytes(path, len(OF_PSMAX) - 1)
     if shares is None or begin == OF_PSMAX or project.dated:
-        return judged(record_in(record_at(path), project), path, which)
+        return judge_record(record_in(record_at(path), project), path, which)
     spelled = ProjectText(project)
     found = shares.parts(path, spelled.text).check()
     return Verdict(path, Record(RecordFile(path), spelled), which, Psprove.name, "verify_log.py", found.says,
                    found.is_wrong, found.count, found.own, found.believed)
 
 
-def judged(record: Record, path: str, which: str) -> Verdict:
+def judge_record(record: Record, path: str, which: str) -> Verdict:
     """The verdict on a record in a file, of this project."""
     program = record.judge(path)
     told, is_wrong = record.told(program)

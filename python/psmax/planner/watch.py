@@ -27,9 +27,9 @@ from .beginning import Beginning, Start, begin_near, must_be_possible
 from .columns import is_head
 from .csv_text import read_sheet
 from .faults import explained
-from .page import More, file, html
+from .page import More, read_part, html
 from .plan_search import SearchLimits, PlanSearch
-from .plans import Plan, PlanSchedule, keep
+from .plans import Plan, PlanSchedule, keep_plan
 from .project_file import ProjectFile, open_project
 from .screen import Screen
 from .server import Server
@@ -44,7 +44,7 @@ MOVED = '<details id="moved" open hidden><summary></summary><div></div></details
 
 
 @dataclass(frozen=True)
-class Options:
+class WatchOptions:
     seconds: float
     jobs: int
     record: str | None
@@ -77,7 +77,7 @@ def read_save(path: str) -> Save:
 class Watch:
     """All that changes the plan is done by one thread, in turn: saves that are seen, and orders of the page."""
 
-    def __init__(self, path: str, settings: Settings, start: Start, options: Options, folder: str) -> None:
+    def __init__(self, path: str, settings: Settings, start: Start, options: WatchOptions, folder: str) -> None:
         self.path, self.settings, self.frozen, self.options, self.folder = path, settings, start.frozen, options, folder
         self.screen, self.saves, self.clock = Screen(), Saves(), Clock()
         # And no SimpleQueue: a signal that comes while that waits may make it wait for ever (Python 3.11).
@@ -181,7 +181,7 @@ class Watch:
 
     def keep(self) -> str:
         self.stop()
-        names = keep(self.screen.plan())
+        names = keep_plan(self.screen.plan())
         self.kept = self.screen.shown
         return f"Kept: {', '.join(names)}"
 
@@ -217,7 +217,7 @@ def shadow(opened: ProjectFile, given: AnswerText | None) -> tuple[int, ...]:
 
 
 @contextmanager
-def alone(path: str) -> Iterator[None]:
+def hold_alone(path: str) -> Iterator[None]:
     """The only watch of a table. The system forgets the name when the process ends, however it does."""
     name = hashlib.sha256(os.path.realpath(path).encode("utf-8", "surrogateescape")).hexdigest()
     with socket.socket(socket.AF_UNIX) as held:
@@ -228,7 +228,7 @@ def alone(path: str) -> Iterator[None]:
         yield
 
 
-def watch(path: str, settings: Settings, start: Start, options: Options) -> int:
+def watch(path: str, settings: Settings, start: Start, options: WatchOptions) -> int:
     if path == DASH:
         raise BadInput("plan watch follows a file, and not standard input")
     if start.frozen is not None and start.answer is None:
@@ -236,7 +236,7 @@ def watch(path: str, settings: Settings, start: Start, options: Options) -> int:
     lose_none({"the table": path} | settings.files() | start.inputs(), [options.record])
     must_be_like(options.record, BEGIN, "record")
     read_bytes(path)
-    with alone(path), tempfile.TemporaryDirectory(prefix="plan-") as folder:
+    with hold_alone(path), tempfile.TemporaryDirectory(prefix="plan-") as folder:
         watching = Watch(path, settings, start, options, folder)
         watching.clock.listen()
         serve(watching)
@@ -245,7 +245,7 @@ def watch(path: str, settings: Settings, start: Start, options: Options) -> int:
 
 def serve(watching: Watch) -> None:
     try:
-        server = Server(watching.options.port, watching.screen, page(watching.path), watching.order, watching.change)
+        server = Server(watching.options.port, watching.screen, watch_page(watching.path), watching.order, watching.change)
     except OSError as fault:
         raise Failed(f"port {watching.options.port}: {fault.strerror}") from None
     thread = threading.Thread(target=server.serve_forever, args=(GLANCE,), daemon=True)
@@ -282,8 +282,8 @@ def show(address: str) -> None:
     threading.Thread(target=run, daemon=True).start()
 
 
-def page(path: str) -> bytes:
+def watch_page(path: str) -> bytes:
     """The page, which asks for all that it shows."""
     policy = "; connect-src 'self'; base-uri 'none'; form-action 'none'"
-    more = More(file("watch.html"), MOVED, file("watch.css"), file("watch.js"), policy)
+    more = More(read_part("watch.html"), MOVED, read_part("watch.css"), read_part("watch.js"), policy)
     return html(pathlib.Path(path).stem, "A4", {}, {}, more=more).encode("utf-8", "replace")

@@ -53,7 +53,7 @@ def details(data: bytes, fault: str, called: Names) -> list[str]:
     if fault == "too long":
         return [f"  a text has at most {LARGEST:,} bytes"]
     found = words(data)
-    place_of_fault = find(found, fault)
+    place_of_fault = find_fault(found, fault)
     if place_of_fault is None:
         return []
     index, place = place_of_fault
@@ -66,7 +66,7 @@ def details(data: bytes, fault: str, called: Names) -> list[str]:
     return [*told, f"  expected: {expected(place, called)}"]
 
 
-def find(found: list[Word], fault: str) -> tuple[int, Place | None] | None:
+def find_fault(found: list[Word], fault: str) -> tuple[int, Place | None] | None:
     """The word that a fault of psmax is about, and its place; no place where the project has none more."""
     values = [int(word.text) if NUMBER.fullmatch(word.text) else 0 for word in found]
     by_word = re.match(r"word (\d+):|ends before word (\d+)$", fault)

@@ -140,8 +140,7 @@ def why(opened: ProjectFile, start: Start, deadline: int | None, seconds: float,
     project = begin_with(opened, start).project
     if deadline is None and project.goal is Goal.MAKESPAN:
         deadline = project.horizon
-    clock = Clock(seconds)
-    clock.listen()
+    clock = Clock(seconds).listen()
     try:
         return Causes(opened, project, clock, jobs, deadline).tell_all(out)
     except TimeUp:

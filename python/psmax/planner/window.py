@@ -68,8 +68,9 @@ def windows(project: Numbers, starts: tuple[int, ...], psmax: Psmax) -> dict[int
     found = by_lags(project, starts)
     for activity in range(1, project.end):
         found[activity] = by_resources(project, starts, activity, found[activity], used)
-    for group in groups(project, starts, [(activity, start) for activity, window in found.items()
-                                          for start in {window.earliest, window.latest} - {starts[activity]}]):
+    moves = [(activity, start) for activity, window in found.items()
+             for start in {window.earliest, window.latest} - {starts[activity]}]
+    for group in group_moves(project, starts, moves):
         moved = {**dict(enumerate(starts)), **group}
         if psmax.check(project, (*moved.values(),)).value is None:
             told = ", ".join(f"activity {activity} at {start}" for activity, start in group.items())
@@ -77,7 +78,7 @@ def windows(project: Numbers, starts: tuple[int, ...], psmax: Psmax) -> dict[int
     return found
 
 
-def groups(project: Numbers, starts: tuple[int, ...], moves: list[tuple[int, int]]) -> list[dict[int, int]]:
+def group_moves(project: Numbers, starts: tuple[int, ...], moves: list[tuple[int, int]]) -> list[dict[int, int]]:
     """Moves of activities, in groups of which one check confirms each move alone: no lag ties two of a group, and no
     two use one resource at the same time, before or behind their moves."""
     tied: list[set[int]] = [{activity} for activity in range(project.end + 1)]

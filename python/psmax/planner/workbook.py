@@ -1,6 +1,5 @@
 """A schedule in a spreadsheet file (.xlsx): dates and floats in the planner's own sheet, and one that is a chart."""
 import io
-import os
 import zipfile
 from collections.abc import Iterator
 from copy import copy
@@ -8,17 +7,17 @@ from dataclasses import dataclass
 from typing import Any
 
 from ..errors import BadInput
-from ..files import SPREADSHEET, read_bytes, read_text, write_whole
+from ..files import SPREADSHEET, read_bytes, read_text, read_there, write_whole
 from ..spreadsheet import openpyxl, reader_of, sheet_of, workbook
 from ..total import TotalFloat
 from . import workbook_chart
 from .columns import is_head
 from .csv_text import read_sheet
-from .headline import verdict
+from .headline import describe_schedule
 from .project_file import ProjectFile
 from .window import Window
-from .workbook_chart import put
-from .write import rows
+from .workbook_chart import put_value
+from .write import schedule_rows
 
 FORMS = {"iso": "yyyy-mm-dd", "dots": "dd.mm.yyyy", "dmy": "dd/mm/yyyy", "mdy": "mm/dd/yyyy"}  # of dates, by DateStyle
 HEADS = {  # what is written, and what its column may be called already; the first name is that of a new one
@@ -83,18 +82,18 @@ def is_german(opened: ProjectFile) -> bool:
     return opened.table is not None and not GERMAN_HEADS.isdisjoint(head.lower() for head in opened.table.columns.heads)
 
 
-def write(filled: Filled, out: str) -> list[str]:
+def write_workbook(filled: Filled, out: str) -> list[str]:
     """What there is to say of it."""
     opened = filled.opened
-    must_be_ours(out)
+    must_be_own_book(out)
     path = source_of(opened)
     data = read_bytes(path) if path is not None else b""
     is_own = data.startswith(SPREADSHEET)
     book = workbook(data, opened.path) if is_own else of_texts(filled, path)
     if opened.table is not None:
-        fill(sheet_of(book, opened.settings.sheet if is_own else None, opened.path), filled)
-    title = verdict(opened, filled.starts, filled.starts[-1])[0]
-    workbook_chart.draw(book, opened, filled.starts, filled.total, title)
+        fill_sheet(sheet_of(book, opened.settings.sheet if is_own else None, opened.path), filled)
+    title = describe_schedule(opened, filled.starts, filled.starts[-1])[0]
+    workbook_chart.draw_sheet(book, opened, filled.starts, filled.total, title)
     made = io.BytesIO()
     book.save(made)
     write_whole(out, made.getvalue())
@@ -114,29 +113,29 @@ def of_texts(filled: Filled, path: str | None) -> Any:
     book = openpyxl(filled.opened.path).Workbook()
     book.active.title = "table"
     if path is None:
-        cells: list[list[object]] = rows(filled.opened, filled.starts)
+        cells: list[list[object]] = schedule_rows(filled.opened, filled.starts)
     else:
         sheet = read_sheet(path, read_text(path), is_head)
         cells = [[*row] for row in [*sheet.above, sheet.heads, *sheet.rows]]
     for number, row in enumerate(cells, 1):
         for place, text in enumerate(row, 1):
-            put(book.active.cell(number, place), number_or_text(text) if isinstance(text, str) else text)
+            put_value(book.active.cell(number, place), number_or_text(text) if isinstance(text, str) else text)
     return book
 
 
-def fill(sheet: Any, filled: Filled) -> None:
+def fill_sheet(sheet: Any, filled: Filled) -> None:
     opened, table = filled.opened, filled.opened.table
     assert table is not None
     head_row, heads = table.head_row, table.columns.heads
-    for name, place in places(filled, heads):
+    for name, place in column_places(filled, heads):
         head = sheet.cell(head_row, place)
         if head.value is None:
-            put(head, GERMAN[name] if is_german(opened) else name)
+            put_value(head, GERMAN[name] if is_german(opened) else name)
             copy_look(sheet.cell(head_row, len(heads)), head)
             sheet.column_dimensions[head.column_letter].width = WIDTH
-        for row, activities in activities_of(table.rows):
+        for row, activities in rows_with_activities(table.rows):
             cell = sheet.cell(row, place)
-            put(cell, filled.value(name, activities))
+            put_value(cell, filled.value(name, activities))
             if place > len(heads):
                 copy_look(sheet.cell(row, len(heads)), cell)
             if name in ("start", "end") and opened.calendar is not None:
@@ -144,7 +143,7 @@ def fill(sheet: Any, filled: Filled) -> None:
                 cell.number_format = FORMS[opened.calendar.style.form] + clock
 
 
-def places(filled: Filled, heads: list[str]) -> Iterator[tuple[str, int]]:
+def column_places(filled: Filled, heads: list[str]) -> Iterator[tuple[str, int]]:
     """The number of the column of each, which is a new one behind all others where the sheet has none."""
     after = len(heads)
     lower = [head.lower() for head in heads]
@@ -154,7 +153,7 @@ def places(filled: Filled, heads: list[str]) -> Iterator[tuple[str, int]]:
         yield name, there or after
 
 
-def activities_of(numbers: tuple[int, ...]) -> list[tuple[int, list[int]]]:
+def rows_with_activities(numbers: tuple[int, ...]) -> list[tuple[int, list[int]]]:
     """The activities of each row."""
     found: dict[int, list[int]] = {}
     for activity, row in enumerate(numbers, 1):
@@ -176,9 +175,9 @@ def lost(before: bytes, after: bytes) -> list[str]:
             and not any(name.startswith(begin) for name in new)]
 
 
-def must_be_ours(out: str) -> None:
+def must_be_own_book(out: str) -> None:
     """A file that is there is one that was written so."""
-    there = read_bytes(out) if os.path.isfile(out) else b""
+    there = read_there(out)
     if there.strip():
         book = reader_of(there, out, read_only=True).wb if there.startswith(SPREADSHEET) else None
         if book is None or not workbook_chart.is_ours(book):

@@ -63,7 +63,7 @@ def is_ours(book: Any) -> bool:
     return TITLE in book.sheetnames
 
 
-def draw(book: Any, opened: ProjectFile, starts: tuple[int, ...], total: TotalFloat | None, title: str) -> None:
+def draw_sheet(book: Any, opened: ProjectFile, starts: tuple[int, ...], total: TotalFloat | None, title: str) -> None:
     """In place of the one that was drawn before."""
     if is_ours(book):
         del book[TITLE]
@@ -71,8 +71,8 @@ def draw(book: Any, opened: ProjectFile, starts: tuple[int, ...], total: TotalFl
     known = drawing.Details(critical=critical, started=[*opened.progress.started])
     shown = drawing.make(opened, starts, title, (), known)
     sheet, scale = book.create_sheet(TITLE), ChartScale(shown)
-    put(sheet.cell(1, 1), title)
-    ruler(sheet, scale)
+    put_value(sheet.cell(1, 1), title)
+    draw_ruler(sheet, scale)
     for row, bar in enumerate(shown.bars, TOP):
         bar_row(sheet, scale, row, bar)
     for row, load in enumerate(shown.loads, TOP + len(shown.bars) + 1):
@@ -83,7 +83,7 @@ def draw(book: Any, opened: ProjectFile, starts: tuple[int, ...], total: TotalFl
     sheet.print_title_rows = f"1:{HEADS}"
 
 
-def ruler(sheet: Any, scale: ChartScale) -> None:
+def draw_ruler(sheet: Any, scale: ChartScale) -> None:
     for name, width in WIDE.items():
         sheet.column_dimensions[name].width = width
     heads = [*scale.heads()]
@@ -97,7 +97,7 @@ def ruler(sheet: Any, scale: ChartScale) -> None:
 def bar_row(sheet: Any, scale: ChartScale, row: int, bar: Bar) -> None:
     shade(sheet, scale, row)
     for place, text in enumerate((bar.id, bar.name, bar.first, bar.last), 1):
-        put(sheet.cell(row, place), text)
+        put_value(sheet.cell(row, place), text)
     colour = GROUP if bar.activity is None else PAST if bar.has_started else CRITICAL if bar.is_critical else BAR
     if bar.activity is not None and bar.begins == bar.ends:
         sheet.cell(row, scale.columns(bar.begins, bar.ends)[0], "\u25c6")
@@ -108,7 +108,7 @@ def bar_row(sheet: Any, scale: ChartScale, row: int, bar: Bar) -> None:
 def load_row(sheet: Any, scale: ChartScale, row: int, load: Load) -> None:
     """The greatest use of each column."""
     shade(sheet, scale, row)
-    put(sheet.cell(row, 2), load.name)
+    put_value(sheet.cell(row, 2), load.name)
     sheet.cell(row, 3, f"of {load.capacity}")
     most: dict[int, int] = {}
     for one in load.stretches:
@@ -118,7 +118,7 @@ def load_row(sheet: Any, scale: ChartScale, row: int, load: Load) -> None:
     paint(sheet, row, most, USE)
 
 
-def put(cell: Any, value: object) -> None:
+def put_value(cell: Any, value: object) -> None:
     """A text is one, whatever signs it begins with."""
     cell.value = None if value == "" else value
     if isinstance(value, str) and value:

@@ -1,7 +1,6 @@
 """`plan write`: a schedule as a table in CSV, with names and, from a first day on, with dates; or as a calendar, or in
 the file of another tool."""
 import datetime
-import os
 import pathlib
 import sys
 from dataclasses import dataclass
@@ -10,16 +9,14 @@ from typing import TYPE_CHECKING
 from ..call_files import lose_none, must_be_like
 from ..clock import Clock
 from ..errors import BadInput
-from ..files import STANDARD_INPUT, decoded, read_bytes, write_whole
+from ..files import STANDARD_INPUT, decoded, read_bytes, read_there, write_whole
 from ..formats import mspdi_sign, xer_sign
 from ..psmax import Psmax
-from ..psprove import Psprove
 from ..spreadsheet import SUFFIX
 from . import icalendar
 from .answer import feasible
 from .answer_text import PERIOD, read_answer
-from .beginning import begin_with
-from .headline import MISSED, verdict
+from .headline import MISSED, describe_schedule
 from .csv_text import SEPARATORS, Text, read_sheet, write_sheet
 from .project_file import ProjectFile
 from .window import windows
@@ -32,7 +29,7 @@ HEADS = ["activity", "name", "start", "takes", "end"]  # and what they count, wh
 
 
 @dataclass(frozen=True)
-class Sheet:
+class SheetOptions:
     """What the words of a command say of a table that is written."""
 
     out: str | None
@@ -49,7 +46,7 @@ class Sheet:
 
     def must_have(self, heads: list[str]) -> None:
         """A file that is there has a table of these columns, or nothing."""
-        there = read_bytes(self.out) if self.out is not None and os.path.isfile(self.out) else b""
+        there = read_there(self.out)
         if self.out is not None and there.strip():
             try:
                 found = read_sheet(self.out, there.decode("utf-8", "replace")).heads
@@ -62,10 +59,10 @@ class Sheet:
     def put(self, table: list[list[object]], opened: ProjectFile) -> None:
         """Into the file that is named, where another of the same columns may be, or to standard output."""
         self.must_have(list(map(str, table[0])))
-        put(self.text(table, opened), self.out)
+        put_text(self.text(table, opened), self.out)
 
 
-def rows(opened: ProjectFile, starts: tuple[int, ...], with_dates: bool = True) -> list[list[object]]:
+def schedule_rows(opened: ProjectFile, starts: tuple[int, ...], with_dates: bool = True) -> list[list[object]]:
     """A row for each activity, in the order of their starts, below the names of the columns."""
     project, calendar = opened.project, opened.calendar if with_dates else None
     units = [] if opened.is_own() else [PERIOD, "length"]
@@ -90,7 +87,7 @@ def label_of(opened: ProjectFile, activity: int) -> object:
     return int(label) if label.isascii() and label.isdecimal() and not label.startswith("0") else Text(label)
 
 
-def put(text: str, out: str | None) -> None:
+def put_text(text: str, out: str | None) -> None:
     """Writes a text into a file, or to standard output where none is named."""
     if out is not None:
         write_whole(out, text.encode("utf-8", "replace"))
@@ -100,17 +97,13 @@ def put(text: str, out: str | None) -> None:
 
 def into_workbook(opened: ProjectFile, starts: tuple[int, ...], out: str, wanted: "Total | None") -> list[str]:
     """What of the table's own file is not in the new one. Total floats are proved where that is wanted."""
-    from . import floats, workbook
-    total = None
-    if wanted is not None:
-        clock = Clock(wanted.seconds)
-        clock.listen()
-        total = floats.total_float(begin_with(opened, wanted.start), starts, Psprove(clock, opened.path), wanted.jobs)
+    from . import workbook
+    total = None if wanted is None else wanted.of(opened, starts)
     found = windows(opened.project, starts, Psmax(Clock(), opened.path))
-    return [f"{line}\n" for line in workbook.write(workbook.Filled(opened, starts, found, total), out)]
+    return [f"{line}\n" for line in workbook.write_workbook(workbook.Filled(opened, starts, found, total), out)]
 
 
-def write(opened: ProjectFile, given: str | None, sheet: Sheet, resource: str | None = None,
+def write(opened: ProjectFile, given: str | None, sheet: SheetOptions, resource: str | None = None,
           total: "Total | None" = None, is_daily: bool = False) -> int:
     """As a table, or as what the suffix of the file says."""
     lose_none(opened.inputs() | {"the answer": given or STANDARD_INPUT}, [sheet.out])
@@ -125,44 +118,33 @@ def write(opened: ProjectFile, given: str | None, sheet: Sheet, resource: str | 
     if is_daily:
         from .daily import DailyList
         must_be_like(sheet.out, BEGIN, "page of HTML")
-        put(DailyList(opened, known.starts, resource).page(pathlib.Path(opened.path).stem), sheet.out)
+        put_text(DailyList(opened, known.starts, resource).page(pathlib.Path(opened.path).stem), sheet.out)
     elif suffix == icalendar.SUFFIX:
         must_be_like(sheet.out, icalendar.BEGIN, "calendar")
-        put(icalendar.calendar_text(opened, known.starts, resource, datetime.datetime.now(datetime.UTC)), sheet.out)
+        put_text(icalendar.calendar_text(opened, known.starts, resource, datetime.datetime.now(datetime.UTC)), sheet.out)
     elif suffix == SUFFIX:
         sys.stdout.write("".join(into_workbook(opened, known.starts, sheet.out or "", total)))
-    elif suffix == mspdi_sign.SUFFIX:
-        must_be_like(sheet.out, b"<", "XML")
-        put(replanned(opened, known.starts), sheet.out)
-    elif suffix == xer_sign.SUFFIX:
-        must_be_like(sheet.out, xer_sign.MARK.encode(), "project of Primavera")
-        write_whole(sheet.out or "", with_dates(opened, known.starts))
+    elif suffix in (mspdi_sign.SUFFIX, xer_sign.SUFFIX):
+        is_xml = suffix == mspdi_sign.SUFFIX
+        must_be_like(sheet.out, *((b"<", "XML") if is_xml else (xer_sign.MARK.encode(), "project of Primavera")))
+        write_whole(sheet.out or "", into_tool_file(opened, known.starts, is_xml))
     else:
-        sheet.put(rows(opened, known.starts), opened)
-    said = verdict(opened, known.starts, known.starts[-1])
+        sheet.put(schedule_rows(opened, known.starts), opened)
+    said = describe_schedule(opened, known.starts, known.starts[-1])
     is_told = opened.calendar is not None or bool(said[1:])
     if is_told and sheet.out is not None or said[1:] and said[1].startswith(MISSED):
         print(*said, sep="\n", file=sys.stderr if sheet.out is None else sys.stdout)
     return 0
 
 
-def replanned(opened: ProjectFile, starts: tuple[int, ...]) -> str:
-    """The file of the project with these starts, where it is one of Microsoft Project."""
+def into_tool_file(opened: ProjectFile, starts: tuple[int, ...], is_xml: bool) -> bytes:
+    """The file of the project with these starts, where it is one of the same tool."""
     from ..answer import Schedule, question
     from ..api import Project
-    from ..formats import mspdi_text
-    text = read_bytes(opened.path).decode("utf-8-sig", "replace")
-    if not mspdi_sign.is_like(text):
-        raise BadInput(f"{opened.path} is no project of Microsoft Project (MSPDI), into which starts could be written")
-    return mspdi_text.replanned(text, Schedule(question(Project.read(text.encode())), starts))
-
-
-def with_dates(opened: ProjectFile, starts: tuple[int, ...]) -> bytes:
-    """The file of the project with these starts, where it is one of Primavera."""
-    from ..answer import Schedule, question
-    from ..api import Project
-    from ..formats import xer_text
+    from ..formats import mspdi_text, xer_text
     data = read_bytes(opened.path)
-    if not xer_sign.is_like(decoded(data)):
-        raise BadInput(f"{opened.path} is no project of Primavera, into which dates could be written")
-    return xer_text.replanned(data, Schedule(question(Project.read(data)), starts))
+    if not (mspdi_sign if is_xml else xer_sign).is_like(decoded(data)):
+        tool = "Microsoft Project (MSPDI)" if is_xml else "Primavera"
+        raise BadInput(f"{opened.path} is no project of {tool}, into which dates could be written")
+    schedule = Schedule(question(Project.read(data)), starts)
+    return mspdi_text.replanned(data, schedule) if is_xml else xer_text.replanned(data, schedule)
