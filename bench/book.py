@@ -38,7 +38,8 @@ def measured(program: str, project: bytes, *words: int) -> tuple[list[int], floa
 
 
 def main(program: str) -> None:
-    measuring.heads("Project", "Open nodes", "Taken for it", "Bytes an open node", "Take, ns", "Check-in, ns", "Opened by it")
+    measuring.heads("Project", "Open nodes", "Taken for it", "Bytes an open node", "Take, ns", "Check-in, ns",
+                    "Opened by it")
     for name, project in PROJECTS:
         _, least = measured(program, project, FEW)
         for nodes in (FEW, MANY):

@@ -40,7 +40,8 @@ from psmax.project_text import ProjectText, parse  # noqa: E402
 from psmax.psmax import starts_text  # noqa: E402
 from psmax.psprove import Psprove  # noqa: E402
 
-HEADS = ("project", "one: s", "conflicts", "machines", "cubes", "s", "conflicts", "longest", "takes", "speed-up", "logs, MB",
+HEADS = ("project", "one: s", "conflicts", "machines", "cubes", "s", "conflicts", "longest", "takes", "speed-up",
+         "logs, MB",
          "record, MB", "join, s", "verify, s", "proved")
 Job = Callable[[], object]
 
@@ -109,7 +110,8 @@ def timed(job: Job) -> float:
 def undivided(psprove: str, path: str, most: float) -> One:
     with tempfile.TemporaryDirectory() as folder:
         until = pathlib.Path(folder, "until")
-        words = [psprove, "solve", "--json", "--seconds", "1000000", "--until", f"{until}", "--record", f"{folder}/record"]
+        words = [psprove, "solve", "--json", "--seconds", "1000000", "--until", f"{until}", "--record",
+                 f"{folder}/record"]
         before = used()
         found = watching.watch(words, path, most, until=until)
         told = json.loads(found.lines[-1][1])
@@ -171,7 +173,8 @@ def joined(tree: Tree, clock: Clock) -> tuple[float, float, str]:
     begun.write_bytes(starts_text(tree.starts or ()))
     words = ["--project", f"{tree.folder / 'project.sch'}"]
     start = ["--start", f"{begun}"] if tree.starts else []
-    join = timed(lambda: program.call(["join", *words, *start, "--tree", f"{tree.write_list()}", "--record", f"{record}"],
+    join = timed(lambda: program.call(["join", *words, *start, "--tree", f"{tree.write_list()}", "--record",
+                                       f"{record}"],
                                       b"", math.inf))
     before = used()
     says = program.call(["verify", *words], record, math.inf)[1].decode().strip()

@@ -33,7 +33,8 @@ def path(word: str) -> str:
     return str(pathlib.Path(word).resolve())
 
 
-def run(words: Sequence[object], given: bytes = b"", folder: object = None, env: Mapping[str, str] | None = None) -> Ran:
+def run(words: Sequence[object], given: bytes = b"", folder: object = None,
+        env: Mapping[str, str] | None = None) -> Ran:
     with tempfile.TemporaryFile() as source:
         source.write(given)
         source.seek(0)

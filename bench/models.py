@@ -36,7 +36,8 @@ def flatzinc(project: Project) -> str:
     out += [f"constraint int_lin_le([1,-1],[{names[i]},{names[j]}],{-lag});" for i, j, lag in all_arcs(project)]
     for k, capacity in enumerate(capacities):
         who = users(project, k)
-        columns: list[list[object]] = [[names[i] for i in who], [durations[i] for i in who], [demands[i][k] for i in who]]
+        columns: list[list[object]] = [[names[i] for i in who], [durations[i] for i in who],
+                                       [demands[i][k] for i in who]]
         given = ",".join("[" + ",".join(map(str, column)) + "]" for column in columns)
         out.append(f"constraint cumulatives({given},{capacity});")
     search = f"int_search([{','.join(names)}],smallest,indomain_min,complete)"

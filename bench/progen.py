@@ -144,7 +144,8 @@ def walked(rng: Lehmer, n: int, arcs: Sequence[Arc]) -> tuple[int, int]:
     return first, last
 
 
-def maximum_lags(rng: Lehmer, network: Network, words: Words, durations: Sequence[int], arcs: Sequence[Arc]) -> list[Arc]:
+def maximum_lags(rng: Lehmer, network: Network, words: Words, durations: Sequence[int],
+                 arcs: Sequence[Arc]) -> list[Arc]:
     n, back, used = words.n, list[Arc](), 0
     for _ in range(1000 * words.cycles):
         if len(back) == words.cycles:
@@ -200,7 +201,8 @@ def project(words: Words) -> Project:
 def words_of(line: Sequence[str] | None = None) -> Words:
     """The words of a line, or of the command line."""
     parser = projects.words(__doc__)
-    for option, usual in (("order", 50), ("redundancy", 10), ("cycles", -1), ("slack", 50), ("factor", 75), ("strength", 25)):
+    for option, usual in (("order", 50), ("redundancy", 10), ("cycles", -1), ("slack", 50), ("factor", 75),
+                          ("strength", 25)):
         parser.add_argument(f"--{option}", type=int, default=usual)
     words = Words(**vars(parser.parse_args(line)))
     shares = words.order, words.redundancy + 1, words.factor, words.strength

@@ -86,7 +86,8 @@ class Row:
 
     def print(self) -> None:
         counts = [f"{self.own[name]:,}" for name in ("conflicts", "record_bytes")]
-        measuring.row(self.name, told(self.other), f"{self.other_used:.1f}", told(self.own), f"{self.used:.1f}", *counts,
+        measuring.row(self.name, told(self.other), f"{self.other_used:.1f}", told(self.own), f"{self.used:.1f}",
+                      *counts,
                       f"{self.verified:.2f}")
 
 

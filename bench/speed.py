@@ -65,7 +65,8 @@ def add_row(name: object, takes: int, found: Sequence[Sequence[Measured]], first
     first = first or rates[0]
     opening = 1000 * max(one[0][2] for one in found)
     others = [cell for rate, most in zip(rates[1:], memory[1:]) for cell in (f"{rate:,.0f}", f"{most:.0f}")]
-    row(name, len(found), takes, f"{rates[0]:,.0f}", f"{rates[0] / first:.4f}", f"{opening:.1f}", f"{memory[0]:.0f}", *others)
+    row(name, len(found), takes, f"{rates[0]:,.0f}", f"{rates[0] / first:.4f}", f"{opening:.1f}", f"{memory[0]:.0f}",
+        *others)
     return first
 
 

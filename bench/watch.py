@@ -36,11 +36,13 @@ look();"""
 
 def turnaround(number: int) -> str:
     """With another duration of its fourth activity at each save."""
-    return (PROJECTS / "turnaround.csv").read_text().replace("E-101: fit blinds,3 h", f"E-101: fit blinds,{4 + number % 8} h")
+    return (PROJECTS / "turnaround.csv").read_text().replace("E-101: fit blinds,3 h",
+                                                             f"E-101: fit blinds,{4 + number % 8} h")
 
 
 def large(number: int) -> str:
-    rows = [f"job {job},{1 + job % 7 + (number % 50 if job == 7 else 0)},{1 + job % 2},{f'job {job - 4}' if job > 4 else ''}"
+    rows = [f"job {job},{1 + job % 7 + (number % 50 if job == 7 else 0)},{1 + job % 2},"
+            f"{f'job {job - 4}' if job > 4 else ''}"
             for job in range(1, 301)]
     return "activity,days,crew (5),after\n" + "\n".join(rows) + "\n"
 
@@ -81,7 +83,8 @@ def main() -> None:
                 watch.until(done())
                 found = [measured(driver, watch, made(number)) for number in range(1, saves + 1)]
             shown, ended, drawn = zip(*found)
-            told = [statistics.median(shown), max(shown), statistics.median(ended), statistics.median(drawn), max(drawn)]
+            told = [statistics.median(shown), max(shown), statistics.median(ended), statistics.median(drawn),
+                    max(drawn)]
             measuring.row(name, count, *(f"{one:.2f}" for one in told))
         driver.quit()
     print(f"\nLoad before and after: {load:.1f}, {os.getloadavg()[0]:.1f}.")

@@ -46,7 +46,8 @@ def rates(program: str, row: tuple[int, int, int, float, int], counts: Sequence[
 
 def main(program: str) -> None:
     counts = [1, 2, 4] if (os.cpu_count() or 1) >= 4 else [1, 2]
-    measuring.heads("Activities", "Pairs are forced", "Takes each", "Without", *(f"{w} worker{'s' * (w > 1)}" for w in counts),
+    measuring.heads("Activities", "Pairs are forced", "Takes each", "Without",
+                    *(f"{w} worker{'s' * (w > 1)}" for w in counts),
                     "Without to 1", *(f"{w} to 1" for w in counts[1:]))
     for row in ROWS:
         n, takes, tight, _, _ = row

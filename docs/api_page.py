@@ -25,7 +25,8 @@ these names stand for others:
 PARTS = {"Project": "Parts", "Span": "Times"}  # classes whose members stand in the section of another one
 HIDDEN_BASES = {*PARTS.values(), "StrEnum", "Enum", "Exception"}
 INTERNAL = {"numbers", "arcs", "crews", "crews_off", "judge", "told", "cases", "question", "known", "spelled", "file",
-            "span", "clock", "must_have_schedule", "dates", "of", "bound_by", "offset", "project", "number", "work_time",
+            "span", "clock", "must_have_schedule", "dates", "of", "bound_by", "offset", "project", "number",
+            "work_time",
             "begin", "dated", "shifts", "is_dated"}
 WIDTH = 116
 Def = (ast.FunctionDef, ast.AsyncFunctionDef)

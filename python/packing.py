@@ -42,7 +42,8 @@ def stated() -> dict[str, Any]:
 def metadata() -> str:
     """What pip knows of the package, with the README as its long description."""
     project = stated()
-    heads = {"Metadata-Version": "2.1", "Name": project["name"], "Version": version(), "Summary": project["description"],
+    heads = {"Metadata-Version": "2.1", "Name": project["name"], "Version": version(),
+             "Summary": project["description"],
              "Author": ", ".join(one["name"] for one in project["authors"]), "Keywords": ",".join(project["keywords"]),
              "Requires-Python": project["requires-python"], "Description-Content-Type": "text/markdown"}
     lines = [f"{head}: {text}\n" for head, text in heads.items()]

@@ -67,7 +67,8 @@ def check(name: str, program: pathlib.Path, out: str | None) -> None:
 def told(row: Row, record: bytes, version: str) -> str:
     if searches.digest(record) == row["record"]:
         return f"{len(record)} bytes, the record that the table has"
-    return f"{len(record)} bytes, not the record of the table: that is of psprove {row['version']}, and this is {version}"
+    return (f"{len(record)} bytes, not the record of the table: that is of psprove {row['version']}, and this is "
+            f"{version}")
 
 
 def main() -> None:

@@ -55,7 +55,8 @@ def better(new: Row, old: Row | None) -> bool:
 
 def told(row: Row, is_better: bool) -> str:
     stays = "" if is_better else "; the table knows more, so its row stays"
-    return f"{row['name']}: {values.known(row)}, {row['conflicts']} conflicts, {row['seconds']} s, {row['bytes']} bytes{stays}"
+    return (f"{row['name']}: {values.known(row)}, {row['conflicts']} conflicts, {row['seconds']} s, "
+            f"{row['bytes']} bytes{stays}")
 
 
 def compute(program: pathlib.Path, jobs: int, only: str) -> None:
@@ -65,7 +66,8 @@ def compute(program: pathlib.Path, jobs: int, only: str) -> None:
     left = [one for one in chosen if not is_done(one, rows.get(one.name), version)]
     print(f"{len(left)} of {len(chosen)} projects are not of psprove {version}", flush=True)
     with ThreadPoolExecutor(jobs) as pool:
-        running = [pool.submit(searches.computed, program, version, one, published, source.get(one.name, "")) for one in left]
+        running = [pool.submit(searches.computed, program, version, one, published, source.get(one.name, ""))
+                   for one in left]
         try:
             for row, record in results(running):
                 is_better = better(row, rows.get(row["name"]))

@@ -23,11 +23,14 @@ SIZES = {10: CONFLICTS, 20: CONFLICTS, 30: CONFLICTS, 50: 100_000, 100: 15_000, 
 ORDERS = 25, 50, 75
 STRENGTHS = {0: 4, 25: 4, 50: 4, 75: 3}  # and how many projects of it there are for each size and order strength
 
-WAITS = {"ft06": (0, 2), "ft10": (0,), **{f"la{k:02}": (0, 10) for k in range(1, 6)}, **{f"la{k}": (0,) for k in range(16, 21)}}
+WAITS = {"ft06": (0, 2), "ft10": (0,), **{f"la{k:02}": (0, 10) for k in range(1, 6)},
+         **{f"la{k}": (0,) for k in range(16, 21)}}
 SHOPS = [*shop_data.ROWS, *(f"ta{k:02}" for k in range(1, 11)), "ta14", "ta17"]
 OPEN_SHOPS = [name for name in shop_data.SEEDS if name.startswith("tai")]
-LOTS = [(story, lots, seed) for story in ("perishable", "sterile", "curing") for lots in range(6, 11) for seed in (1, 2)]
-TIGHTENED = {"assay-lab": (25, 10, 0), "vaccine-lots": (75, 50, 25, 0), "exchanger-turnaround": (0,), "twin-towers": (0,)}
+LOTS = [(story, lots, seed) for story in ("perishable", "sterile", "curing") for lots in range(6, 11)
+        for seed in (1, 2)]
+TIGHTENED = {"assay-lab": (25, 10, 0), "vaccine-lots": (75, 50, 25, 0), "exchanger-turnaround": (0,),
+             "twin-towers": (0,)}
 SHUTDOWNS = 50, 75, 100, 150, 200
 PLANNERS = sorted(path.stem for path in (TOP / "planner" / "projects").glob("*.sch"))
 

@@ -31,14 +31,16 @@ def family(name: str, rows: Sequence[Row]) -> str:
 
 
 def families(rows: Sequence[Row]) -> str:
-    heads = ["Family", "Projects", "Optimal", "No schedule", "Open", "At once", "Activities", "Median s", "Most s", "All s",
+    heads = ["Family", "Projects", "Optimal", "No schedule", "Open", "At once", "Activities", "Median s", "Most s",
+             "All s",
              "Records here"]
     found = [family(name, list(group)) for name, group in groupby(rows, lambda row: row["family"])]
     return line(*heads) + "|" + "---|" * len(heads) + "\n" + "".join(found) + family("all", rows)
 
 
 def challenges(rows: Sequence[Row]) -> str:
-    found = [line(f"`{row['name']}`", row["activities"], row["makespan"] or "none known", row["bound"], row["published"])
+    found = [line(f"`{row['name']}`", row["activities"], row["makespan"] or "none known", row["bound"],
+                  row["published"])
              for row in rows if not is_closed(row)]
     heads = ["Project", "Activities", "Makespan", "Bound", "Published"]
     return line(*heads) + "|" + "---|" * len(heads) + "\n" + "".join(found)

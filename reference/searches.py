@@ -52,7 +52,8 @@ def project_text(row: Row) -> bytes:
     """The text that a row's words write; it has the row's SHA-256."""
     text = text_of(row["words"])
     if digest(text) != row["project"]:
-        raise BadInput(f"{row['name']}: `{row['words']}` writes a text with the SHA-256 {digest(text)}, not {row['project']}")
+        raise BadInput(f"{row['name']}: `{row['words']}` writes a text with the SHA-256 {digest(text)}, not "
+                       f"{row['project']}")
     return text
 
 

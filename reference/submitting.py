@@ -45,8 +45,8 @@ def proved(row: Row, record: bytes, said: str) -> Row:
 def must_have_room(name: str, record: bytes) -> None:
     others = sum(path.stat().st_size for path in RECORDS.glob("*.log") if path.stem != name)
     if others + len(record) > MOST:
-        raise BadInput(f"{name}: the record has {len(record)} bytes; all records together may have {MOST}, and the others "
-                       f"have {others}")
+        raise BadInput(f"{name}: the record has {len(record)} bytes; all records together may have {MOST}, and the "
+                       f"others have {others}")
 
 
 def submit(file: pathlib.Path, program: pathlib.Path) -> Row:

@@ -71,7 +71,8 @@ class Call:
     """One call: its words, and the texts of standard input and of the files `second` and `more`; and the usual status,
     output and fault, and record."""
 
-    def __init__(self, words: list[str], text: bytes, second: bytes = b"", exit: int = 0, out: bytes = b"", fault: bytes = b"",
+    def __init__(self, words: list[str], text: bytes, second: bytes = b"", exit: int = 0, out: bytes = b"",
+                 fault: bytes = b"",
                  record: bytes = b"", answer: Callable[[bytes, bytes], bool] | None = None, more: bytes = b"") -> None:
         self.words, self.text, self.second, self.more = words, text, second, more
         self.usual: Ended = exit, out, fault
@@ -175,7 +176,9 @@ def stopped(text: bytes, makespan: int) -> Callable[[bytes, bytes], bool]:
         said, starts = parts(out)
         kind, *numbers = [word for word in said.split() if word != "bound"]
         bound = int(numbers[-1])
-        is_schedule = judge.is_feasible(starts) and starts[-1] == int(numbers[0]) if kind == "feasible" else kind == "unknown"
+        is_schedule = kind == "unknown"
+        if kind == "feasible":
+            is_schedule = judge.is_feasible(starts) and starts[-1] == int(numbers[0])
         if not is_schedule or bound > makespan:
             return False
         return not record or judges.by_script_of_logs(judge, record) == (0, b"proved bound %d\n" % bound, b"")

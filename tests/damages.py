@@ -82,7 +82,8 @@ def claimed_later(record: bytes) -> bytes:
 
 
 DAMAGES = (
-    without_line, line_twice, lines_swapped, other_leaf, other_number, spelled_otherwise, other_claim, other_byte, cut_off,
+    without_line, line_twice, lines_swapped, other_leaf, other_number, spelled_otherwise, other_claim, other_byte,
+    cut_off,
 )
 
 

@@ -55,7 +55,8 @@ class Run:
         self.call.put_files(self.folder)
         return self
 
-    def __exit__(self, kind: type[BaseException] | None, fault: BaseException | None, trace: TracebackType | None) -> None:
+    def __exit__(self, kind: type[BaseException] | None, fault: BaseException | None,
+                 trace: TracebackType | None) -> None:
         self.holder.cleanup()
 
     def record(self) -> bytes:
@@ -322,7 +323,8 @@ def failing_record(calls: Calls) -> Tried:
     def is_told(call: Call, ended: Ended) -> bool:
         return is_answered(call, ended[1]) and (ended[0], ended[2]) == (1, calls.fault("cannot write"))
 
-    for call in (call for call in calls.answered + calls.open if call.record or call.answer and "--record" in call.words):
+    for call in (call for call in calls.answered + calls.open if call.record or call.answer
+                 and "--record" in call.words):
         with Run(calls.program, call) as run:
             os.symlink("/dev/full", run.folder / "record")
             ended = run.ended()

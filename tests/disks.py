@@ -9,7 +9,8 @@ from collections.abc import Iterator, Mapping
 from dataclasses import dataclass, field
 from pathlib import Path
 
-CALLS = "openat,write,pwrite64,fsync,fdatasync,rename,renameat,renameat2,link,linkat,unlink,unlinkat,mkdir,mkdirat,ftruncate"
+CALLS = ("openat,write,pwrite64,fsync,fdatasync,rename,renameat,renameat2,link,linkat,unlink,unlinkat,mkdir,mkdirat,"
+         "ftruncate")
 OF_FILES = ("write", "pwrite64", "fsync", "fdatasync", "ftruncate")  # calls that name their file by its descriptor
 LINE = re.compile(rb"^\d+ +(\w+)\((.*)\) += (-?\d+)", re.S)
 RESUMED = re.compile(rb"^\d+ +<\.\.\. \w+ resumed>")

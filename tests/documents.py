@@ -52,7 +52,8 @@ LINK = re.compile(r"\[((?:[^\[\]]|\[[^\]]*\])*)\]\(([^)\s]+)\)")
 SPAN = re.compile(r"`([^`\n]+)`")
 FENCE = re.compile(r"^```(\w*)\n(.*?)^```$", re.M | re.S)
 STATED = re.compile(r"^(?:\.TH .*?|## |version: |pub const VERSION: &str = \")(\d+\.\d+\.\d+)", re.M)
-VERSIONED = ("docs/psmax.1", "docs/psprove.1", "docs/plan.1", "CHANGELOG.md", "CITATION.cff", "crates/answers/src/lib.rt")
+VERSIONED = ("docs/psmax.1", "docs/psprove.1", "docs/plan.1", "CHANGELOG.md", "CITATION.cff",
+             "crates/answers/src/lib.rt")
 TYPE = re.compile(r"\b[A-Z][a-z]+[A-Z]\w*")
 NO_TYPES = {"MiB"}
 EXAMPLE = re.compile(r"^\.EX\n(.*?)^\.EE$", re.M | re.S)
@@ -183,7 +184,8 @@ def of_versions() -> Verdicts:
 
 def of_help(programs: Programs) -> Verdicts:
     names = ("psmax", "psprove")
-    for words in [(name,) for name in names] + [(name, command) for name in names for command in programs.commands(name)]:
+    for words in [(name,) for name in names] + [(name, command) for name in names
+                                                for command in programs.commands(name)]:
         told = programs.help(*words)
         types = set(TYPE.findall(told or "")) - NO_TYPES
         fault = f"names of types: {', '.join(sorted(types))}" if types else None
@@ -195,7 +197,8 @@ def of_crates() -> Verdicts:
     _, picture = FENCE.findall(document.read_text())[0]
     for crate in re.findall(r"^\w+", (TOP / "crates.txt").read_text(), re.M):
         yield verdict(document, re.search(rf"\b{crate}\b", picture), f"the picture has no {crate}")
-    yield verdict(document, workspace.table() in document.read_text(), f"the table of crates is not\n{workspace.table()}")
+    yield verdict(document, workspace.table() in document.read_text(),
+                  f"the table of crates is not\n{workspace.table()}")
 
 
 def commands_in(line: str) -> list[list[str]]:

@@ -36,7 +36,8 @@ PROJECTS: list[tuple[str, str, list[str], list[str]]] = [
     ("energy-above-critical", "nine-jobs", ["0,0,5,9,13,16", "0,0,9,5,13,16"], []),
 ]
 # Twelve events for a book of two jobs and two workers. Node 3 is the second child of the root.
-HOSTILE = ("take:0 back:0 take:1 check:0:0: check:0:0: check:3:0: take:0 offer:0,0,3,7 check:2:3: take:1 halt take:0").split()
+HOSTILE = ("take:0 back:0 take:1 check:0:0: check:0:0: check:3:0: take:0 offer:0,0,3,7 check:2:3: take:1 halt "
+           "take:0").split()
 # A report that is checked in again, and the trail that tells of it once.
 AGAIN = "record:1:1000 take:0 check:0:0: check:0:0: trail".split()
 SPLIT_ONCE = "4 activities, root split 0 [1, 2] opened 1 opened 2, 0 1-2 open, 0 2-1 open"

@@ -228,7 +228,8 @@ class Fuzzer(NamedTuple):
         rng = random.Random(f"{self.seed} {which}")
         drawn, file = known(rng), folder / f"{which}.sch"
         file.write_bytes(drawn.drawn.text())
-        makers = records(random.Random(f"{self.seed} {which} r"), drawn), logs(random.Random(f"{self.seed} {which} l"), drawn)
+        chances = (random.Random(f"{self.seed} {which} {kind}") for kind in "rl")
+        makers = records(next(chances), drawn), logs(next(chances), drawn)
         found = []
         for number, (what, record) in enumerate(self.some(makers), which * EACH):
             is_log, partial = number % 2 == 1, number % 6 == 5

@@ -104,7 +104,8 @@ def huge_count(rng: random.Random, bodies: Bodies) -> None:
 
 def some_arc(rng: random.Random) -> Arc:
     i, j = rng.randrange(9), rng.randrange(9)
-    return *rng.choice([(0, j), (i, 0), (i, j)]), rng.choice([*range(-9, 10), rng.choice([-1, 1]) * rng.choice(LIMITS) // 2])
+    ends = rng.choice([(0, j), (i, 0), (i, j)])
+    return *ends, rng.choice([*range(-9, 10), rng.choice([-1, 1]) * rng.choice(LIMITS) // 2])
 
 
 def some_line(rng: random.Random) -> Line:
@@ -291,7 +292,8 @@ def more_bytes(rng: random.Random, log: bytes) -> bytes:
 DAMAGES: list[Damage] = [
     event_gone, event_twice, events_swapped, drop_more, other_claim,
     other_number, other_number, numbers_moved, longer_number, huge_count,
-    line_more, line_more, other_lines, line_gone, line_of_nothing, other_window, other_window, use_of_itself, member_twice,
+    line_more, line_more, other_lines, line_gone, line_of_nothing, other_window, other_window, use_of_itself,
+    member_twice,
     deep_uses, other_arcs, arcs_twice, wider_arc, limit_arc, limit_arcs, far_slot, lemma_late,
 ]
 DAMAGES_OF_BYTES = [other_byte, other_byte, cut_off, cut_between, other_frame, more_bytes]

@@ -58,7 +58,8 @@ class Trial:
         kind, makespan, *_, bound = said.split()
         if starts[-1] != int(makespan) or not verify.Project(PROJECT).is_feasible(starts):
             return "the starts are no feasible schedule"
-        return None if int(bound) <= OPTIMUM <= int(makespan) and kind in ("optimal", "feasible") else f"the answer is {said}"
+        is_right = int(bound) <= OPTIMUM <= int(makespan) and kind in ("optimal", "feasible")
+        return None if is_right else f"the answer is {said}"
 
     def wrong_record(self, out: bytes, name: str = "record") -> str | None:
         """What is wrong with the record of an answer."""
@@ -94,7 +95,8 @@ def without_memory(trial: Trial, most: int) -> str | None:
 def without_name(trial: Trial) -> str | None:
     """A folder takes the record's name while the search goes on."""
     with open(trial.folder / "project", "rb") as project:
-        ran = subprocess.Popen(trial.words("--until", "end"), stdin=project, stdout=subprocess.PIPE, stderr=subprocess.PIPE,
+        ran = subprocess.Popen(trial.words("--until", "end"), stdin=project, stdout=subprocess.PIPE,
+                               stderr=subprocess.PIPE,
                                cwd=trial.folder)
     part, end = trial.folder / "record.part", time.monotonic() + harness.TIMEOUT
     while time.monotonic() < end and not (part.exists() and part.stat().st_size):

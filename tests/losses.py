@@ -4,8 +4,8 @@
 Hands each command of psmax, or with --proofs of psprove, a file that it reads and writes, or writes twice: for each
 option that reads with each that writes, by the same name, by a symbolic link and by a second name. The command has to
 be refused, and no file may have changed. Then a part of a record or of an export is there, and has to stay; so has an
-older record after a call that has none. And both go where a link leads, with the mode of the older one, which a part has
-from the beginning. The last line counts what was tried."""
+older record after a call that has none. And both go where a link leads, with the mode of the older one, which a part
+has from the beginning. The last line counts what was tried."""
 import functools
 import itertools
 import os
@@ -201,7 +201,8 @@ def export_through_a_link(program: str, here: pathlib.Path) -> str | None:
 
 
 def second_search(program: str, here: pathlib.Path) -> str | None:
-    """Of two searches with one record the second is refused, and the first goes on. Its part has the mode of an older one."""
+    """Of two searches with one record the second is refused, and the first goes on. Its part has the mode of an older
+    one."""
     words, part = [program, "solve", "--record", "record", "--until", "end"], here / "record.part"
     (here / "project").write_bytes(LONG)
     (here / "record").touch(0o600)

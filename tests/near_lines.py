@@ -34,7 +34,8 @@ class Finder:
 
     def loads(self) -> Iterator[Near]:
         for start, end in self.windows():
-            parts = [least_part(p, start, end, self.rows[0][i], self.rows[i][0]) for i, p in enumerate(self.project.durations)]
+            parts = [least_part(p, start, end, self.rows[0][i], self.rows[i][0]) for i,
+                     p in enumerate(self.project.durations)]
             for k, capacity in enumerate(self.project.capacities):
                 load = sum(part * row[k] for part, row in zip(parts, self.project.demands))
                 yield Near(Push(Load(k, start, end), None), capacity * (end - start) + 1 - load)
@@ -85,7 +86,8 @@ def fixed(rng: random.Random, starts: Sequence[int]) -> list[Arc]:
     firsts = [(0, i, starts[i] - rng.randint(0, slack)) for i in some]
     lasts = [(i, 0, -starts[i] - rng.randint(0, slack)) for i in some]
     pairs = list(itertools.combinations(range(1, len(starts)), 2))
-    return firsts + lasts + [(i, j, starts[j] - starts[i]) for i, j in rng.sample(pairs, min(len(pairs), rng.randrange(3)))]
+    return firsts + lasts + [(i, j, starts[j] - starts[i]) for i,
+                             j in rng.sample(pairs, min(len(pairs), rng.randrange(3)))]
 
 
 def shown_arcs(project: verify.Project, rng: random.Random, starts: Sequence[int]) -> list[Arc | None]:
@@ -103,7 +105,8 @@ def false_lemma(rng: random.Random, ledger: Ledger, starts: Sequence[int]) -> Le
     found = [near for near in Finder(ledger, rows, starts).all(slot) if near.by > 0]
     kinds: dict[str, list[Near]] = {}
     for near in found:
-        kinds.setdefault(f"{type(near.line).__name__}{type(getattr(near.line, 'over', None)).__name__}", []).append(near)
+        kinds.setdefault(f"{type(near.line).__name__}{type(getattr(near.line, 'over', None)).__name__}",
+                         []).append(near)
     lines: list[Line] = []
     for _ in range(rng.choice([1, 1, 2])):
         alike = rng.choice(list(kinds.values()))

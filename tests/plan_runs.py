@@ -57,7 +57,8 @@ class Solve(Files):
     def __init__(self, folder: Path, psprove: str) -> None:
         super().__init__(folder, psprove)
         self.before = {"plan.csv": b"", "plan.svg": b"<svg />\n", "plan.rec": b"record 3\nold"}
-        self.words = self.plan("solve", TABLE, "--jobs", 2, "--out", "plan.csv", "--svg", "plan.svg", "--record", "plan.rec")
+        self.words = self.plan("solve", TABLE, "--jobs", 2, "--out", "plan.csv", "--svg", "plan.svg", "--record",
+                               "plan.rec")
 
 
 class Write(Files):

@@ -32,9 +32,11 @@ BUGS = [
     Bug("a pair's arc is longer by one", RECORDS, "    weight = project.durations[before]\n",
         "    weight = project.durations[before] + 1\n"),
     Bug("a load that just fits is none", LOGS, "    return load > ", "    return load >= "),
-    Bug("a lemma may use itself", LOGS, "        has_room = len(arcs) < 2 or slot < SLOTS and slot not in self.lemmas\n",
+    Bug("a lemma may use itself", LOGS, "        has_room = len(arcs) < 2 or slot < SLOTS and slot not in "
+        "self.lemmas\n",
         "        has_room = len(arcs) < 2 or slot < SLOTS and self.lemmas.setdefault(slot, arcs) is arcs\n"),
-    Bug("a pair is forced that may just be kept", RECORDS, "rows[before][after] > -project", "rows[before][after] >= -project"),
+    Bug("a pair is forced that may just be kept", RECORDS, "rows[before][after] > -project",
+        "rows[before][after] >= -project"),
     Bug("a node is cut whose bound is less by one", RECORDS, "bound(project, rows) >= makespan",
         "bound(project, rows) + 1 >= makespan"),
     Bug("a solved node may be infeasible", RECORDS, " >= makespan and project.is_feasible(rows[0])", " >= makespan"),
@@ -82,7 +84,8 @@ def verdicts(words: Sequence[str]) -> Verdicts:
     for bug in BUGS[:o.first]:
         if o.only in bug.name:
             with planted(bug) as folder:
-                found = how_found([o.psmax, o.psprove, "--records", o.records, "--seed", o.seed, "--checkers", str(folder)])
+                found = how_found([o.psmax, o.psprove, "--records", o.records, "--seed", o.seed, "--checkers",
+                                   str(folder)])
             print(f"{bug.name}: {found}", flush=True)
             yield bug.name, None if found else f"not found in {o.records} records"
 

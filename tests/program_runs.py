@@ -44,7 +44,8 @@ class Record(Run):
         self.whole = {written: self.holds(written) or b"" for written in task.writes}  # where nothing interrupts it
 
     def fault(self) -> str | None:
-        odd = {path.name for path in self.there.iterdir()} - {*self.before, *(f"{name}.part" for name in self.task.writes)}
+        parts = {f"{name}.part" for name in self.task.writes}
+        odd = {path.name for path in self.there.iterdir()} - {*self.before} - parts
         if odd:
             return f"{odd} lie there"
         told = [*(self.fault_of(name, old) for name, old in self.before.items()), *map(self.fault_of_part, PARTS)]
@@ -56,7 +57,8 @@ class Record(Run):
             return f"{name} is lost" if data is None else f"{name} is read alone, and has changed"
         if data == old:
             return None
-        return None if self.is_right(name, data, partial(self.is_whole, name)) else f"{name} is neither what it was nor whole"
+        return None if self.is_right(name, data, partial(self.is_whole,
+                                                         name)) else f"{name} is neither what it was nor whole"
 
     def is_whole(self, name: str, data: bytes) -> bool:
         """A record proves what it claims. A tree, and what the search of a cube writes, comes again."""

@@ -156,7 +156,8 @@ def edits(program: pathlib.Path, row: Row) -> Iterator[Verdict]:
         wrong_row = {**row, head: changed(row[head])}
         yield f"a changed {head}", None if record_fault(program, wrong_row) else "it is not found by the record"
     for head in ("project", "activities", "arcs"):
-        yield f"a changed {head}", None if text_fault({**row, head: changed(row[head])}) else "it is not found by the text"
+        is_found = text_fault({**row, head: changed(row[head])}) is not None
+        yield f"a changed {head}", None if is_found else "it is not found by the text"
 
 
 def copied(folder: pathlib.Path) -> None:
@@ -226,8 +227,8 @@ def verdicts(words: Sequence[str]) -> Verdicts:
     yield from submissions(program, rows, small)
     other = sorted({row["version"] for row in rows.values()} - {searches.version_of(program), SUBMITTED})
     if other:
-        print(f"the table is of psprove {', '.join(other)}, and this one is {searches.version_of(program)}: the digests of "
-              "records were not compared; make reference-values computes the table anew")
+        print(f"the table is of psprove {', '.join(other)}, and this one is {searches.version_of(program)}: the "
+              "digests of records were not compared; make reference-values computes the table anew")
 
 
 if __name__ == "__main__":

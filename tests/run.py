@@ -163,7 +163,8 @@ def faults(program: str, case: Spec, inputs: Path) -> Iterator[str]:
 def verdicts(words: Sequence[str]) -> Verdicts:
     parser = harness.Words(__doc__, "program")
     parser.add_argument("--only", default="")
-    parser.add_argument("--cases", nargs="+", type=Path, default=[TOP / "tests/cases.jsonl", TOP / "examples/cases.jsonl"])
+    parser.add_argument("--cases", nargs="+", type=Path,
+                        default=[TOP / "tests/cases.jsonl", TOP / "examples/cases.jsonl"])
     o = parser.parse_args(words)
     for cases in (path.resolve() for path in o.cases):
         inputs = cases.parent if cases.parent.name == "examples" else cases.parent / "inputs"

@@ -24,7 +24,8 @@ def small_project(rng: random.Random) -> projects.Project:
     durations = [0, *(rng.randint(rng.randrange(2), longest) for _ in range(n)), 0]
     capacities = [rng.choice([1, 2, 3, 4, rng.randint(0, 4)]) for _ in range(rng.randint(1, 3))]
     over = 1 if rng.random() < 0.04 else 0
-    demands = [[rng.choice([0, rng.randint(0, c + over), rng.randint(min(1, c), c)]) for c in capacities] for _ in range(n)]
+    demands = [[rng.choice([0, rng.randint(0, c + over), rng.randint(min(1, c), c)]) for c in capacities]
+               for _ in range(n)]
     none = [0] * len(capacities)
     return projects.Project(durations, [none, *demands, none], capacities, lags(rng, durations))
 

@@ -7,7 +7,8 @@ from collections.abc import Iterator, Sequence
 
 import verify
 from verify import Rows
-from verify_log import Arc, Block, Claim, Clique, Drop, Event, Force, Ledger, Lemma, Line, Load, Push, Schedule, Use, are_rivals
+from verify_log import (
+    Arc, Block, Claim, Clique, Drop, Event, Force, Ledger, Lemma, Line, Load, Push, Schedule, Use, are_rivals)
 from verify_log import reverse, with_arc
 
 Pair = tuple[int, int]

@@ -57,7 +57,8 @@ class Maker:
 
     def full(self, members: Sequence[int]) -> int | None:
         """A resource that these use up and do not ask more for."""
-        found = [k for k in self.resources if sum(self.project.demands[i][k] for i in members) == self.project.capacities[k]]
+        found = [k for k in self.resources if sum(self.project.demands[i][k] for i in members)
+                 == self.project.capacities[k]]
         return self.rng.choice(found) if found else None
 
     def wrong_sets(self, rows: Rows) -> list[tuple[int, list[int]]]:

@@ -111,9 +111,11 @@ def by_jobs(program: str, folder: pathlib.Path) -> Tried:
     _, starts, _ = harness.ended([program, "solve", "--conflicts", "100"], project.read_bytes(), SECONDS)
     (folder / "long.starts").write_bytes(starts)
     start, record = ["--start", "long.starts"], ["--record", "record"]
-    harness.ended([program, "solve", "--conflicts", "100", "--record", "old"], project.read_bytes(), SECONDS, cwd=folder)
+    harness.ended([program, "solve", "--conflicts", "100", "--record", "old"], project.read_bytes(), SECONDS,
+                  cwd=folder)
     asked: list[tuple[int, list[str]]] = [
-        (1, record), (2, [*start, *record]), (5, ["--json", "--progress", "json"]), (3, ["--resume", "old", *record]), (64, [])]
+        (1, record), (2, [*start, *record]), (5, ["--json", "--progress", "json"]), (3, ["--resume", "old", *record]),
+        (64, [])]
     for jobs, more in asked:
         words = [program, "solve", "--seconds", "1000", "--jobs", str(jobs), *more]
         with open(project, "rb") as text:

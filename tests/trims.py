@@ -1,11 +1,11 @@
 #!/usr/bin/env python3
 """tests/trims.py PSPROVE [--logs N]
 
-Trims logs of lemmas by `psprove trim`: those of tests/logs, the rows of faults.jsonl there, and N logs of small projects
-(2,000 by default), of which every other one is damaged. Of one that is right the trimmed log has to prove the same, by
-`psprove verify` and by tests/verify_log.py. But for its drops it is no longer. It has one schedule at most, no lemma in a
-slot that no later lemma uses, and no slot that is filled longer than that; trimmed once more it has the same bytes. Of any
-other log `trim` has to say what `verify` says. The last line counts the logs."""
+Trims logs of lemmas by `psprove trim`: those of tests/logs, the rows of faults.jsonl there, and N logs of small
+projects (2,000 by default), of which every other one is damaged. Of one that is right the trimmed log has to prove the
+same, by `psprove verify` and by tests/verify_log.py. But for its drops it is no longer. It has one schedule at most, no
+lemma in a slot that no later lemma uses, and no slot that is filled longer than that; trimmed once more it has the same
+bytes. Of any other log `trim` has to say what `verify` says. The last line counts the logs."""
 import functools
 import io
 import json
@@ -55,7 +55,8 @@ def needless(events: Sequence[Event]) -> str | None:
 
 
 def bytes_but_drops(log: bytes) -> int:
-    return sum(len(log_bytes.framed(body)) for body in log_bytes.bodies_of(log) if log_bytes.number_at(body, 0)[0] % 4 != 1)
+    return sum(len(log_bytes.framed(body)) for body in log_bytes.bodies_of(log)
+               if log_bytes.number_at(body, 0)[0] % 4 != 1)
 
 
 def wrong(psprove: str, project: Path, log: bytes) -> str | None:
@@ -74,7 +75,8 @@ def wrong(psprove: str, project: Path, log: bytes) -> str | None:
         return "verify_log.py says otherwise of the trimmed log"
     if bytes_but_drops(made) > bytes_but_drops(log):
         return f"{len(made)} bytes became of {len(log)}"
-    return needless(events_of(made)) or (None if trimmed(psprove, project, made)[1] == made else "trimmed again it differs")
+    return needless(events_of(made)) or (None if trimmed(psprove, project, made)[1] == made
+                                         else "trimmed again it differs")
 
 
 def rows(folder: Path) -> Iterator[tuple[str, Path, bytes]]:

@@ -41,7 +41,8 @@ MANY = 5  # so many proofs of a crate are tried over one more proof of it
 KEPT = TOP / "build" / "wrong.jsonl"
 LET_THROUGH = "let through"
 # What a check says of goals: those that no search proved, or the first that a written answer doesn't prove.
-OPEN_GOALS = re.compile(r"`search` did not prove .*$|(?<=error: )`[\w-]+`(?=: .*(types (first )?differ|expected type))", re.M)
+OPEN_GOALS = re.compile(r"`search` did not prove .*$|(?<=error: )`[\w-]+`(?=: .*(types (first )?differ|expected type))",
+                        re.M)
 # What `rt ci` says of an edit.
 TRIED = re.compile(r"(?:rt: )?must-fail (\w+)/(\w+)\.edit: (.*)")
 Found = Iterator[tuple[Body, str]]  # what came of each body
@@ -60,12 +61,14 @@ def by_check(copy: pathlib.Path, body: Body) -> str:
     function = body.words[0]
     kept = copy / "kept" / body.crate
     kept.mkdir(parents=True, exist_ok=True)
-    check = [sys.executable, TOP / "tests" / "check_one.py", copy / "crates" / body.crate, function, "--incremental", kept]
+    check = [sys.executable, TOP / "tests" / "check_one.py", copy / "crates" / body.crate, function, "--incremental",
+             kept]
     said = told(check, copy)
     if re.search(r"^only=(\d+) proved=\1$", said, re.M):
         return LET_THROUGH
     goal = OPEN_GOALS.search(said)
-    if not goal or not re.search(rf"^fn {body.crate}::(?:.*::)?{re.escape(function)}: (no proof|not proved)", said, re.M):
+    if not goal or not re.search(rf"^fn {body.crate}::(?:.*::)?{re.escape(function)}: (no proof|not proved)", said,
+                                 re.M):
         return f"not tried: {first_error(said)}"
     return f"refused: {goal[0]}"
 

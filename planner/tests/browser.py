@@ -26,7 +26,8 @@ def chromium() -> Any:
     from selenium.webdriver.chrome.options import Options
     from selenium.webdriver.chrome.service import Service
     kept, options = tempfile.TemporaryDirectory(ignore_cleanup_errors=True), Options()
-    for word in ("--headless", "--no-sandbox", "--disable-gpu", "--disable-dev-shm-usage", f"--user-data-dir={kept.name}",
+    for word in ("--headless", "--no-sandbox", "--disable-gpu", "--disable-dev-shm-usage",
+                 f"--user-data-dir={kept.name}",
                  f"--window-size={WIDTH},{HEIGHT}", "--force-device-scale-factor=1", "--app=data:,"):
         options.add_argument(word)
     options.binary_location = shutil.which("chromium") or ""

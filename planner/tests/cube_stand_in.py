@@ -27,10 +27,12 @@ class Project:
     one for the capacities."""
 
     def __init__(self, data: bytes) -> None:
-        (count, resources, *_), *lines = [line.replace("[", "").replace("]", "").split() for line in data.decode().splitlines()]
+        (count, resources, *_), *lines = [line.replace("[", "").replace("]", "").split()
+                                          for line in data.decode().splitlines()]
         self.end = int(count) + 1
         lags = [[int(word) for word in line] for line in lines[: self.end + 1]]
-        self.arcs = [(line[0], head, lag) for line in lags for head, lag in zip(line[3 : 3 + line[2]], line[3 + line[2] :])]
+        self.arcs = [(line[0], head, lag) for line in lags for head,
+                     lag in zip(line[3 : 3 + line[2]], line[3 + line[2] :])]
         needs = [[int(word) for word in line[2:]] for line in lines[self.end + 1 : 2 * self.end + 2]]
         self.durations, self.demands = [line[0] for line in needs], [line[1:] for line in needs]
         self.capacities = [int(word) for word in lines[-1]] if int(resources) else []
@@ -65,7 +67,8 @@ class Search:
     def __init__(self, project: Project, arcs: Arcs, below: int | None, tries: float) -> None:
         self.project, self.left = project, tries
         self.arcs = [*project.arcs, *((i, j, v) for i, j, v in arcs)]
-        self.below = below if below is not None else sum(project.durations) + sum(abs(lag) for *_, lag in project.arcs) + 1
+        most = sum(project.durations) + sum(abs(lag) for *_, lag in project.arcs) + 1
+        self.below = most if below is None else below
         self.starts: list[int] | None = None
         count = project.end + 1
         self.after = [[(i, v) for i, j, v in self.arcs if j == last and i < last] for last in range(count)]
@@ -88,13 +91,15 @@ class Search:
     def fits(self, starts: list[int]) -> bool:
         """Whether the last one keeps its arcs and finds what it needs. Those before it do, which was asked before."""
         last, time, project = len(starts) - 1, starts[-1], self.project
-        if any(time < starts[i] + v for i, v in self.after[last]) or any(starts[j] < time + v for j, v in self.before[last]):
+        is_soon = any(time < starts[i] + v for i, v in self.after[last])
+        if is_soon or any(starts[j] < time + v for j, v in self.before[last]):
             return False
         ends, needs = time + project.durations[last], project.demands[last]
         if not any(needs) or ends == time:
             return True
         times = [time, *(start for start in starts if time < start < ends)]
-        running = ([i for i, start in enumerate(starts) if start <= now < start + project.durations[i]] for now in times)
+        running = ([i for i, start in enumerate(starts) if start <= now < start + project.durations[i]]
+                   for now in times)
         return all(sum(project.demands[i][k] for i in there) <= units
                    for there in running for k, units in enumerate(project.capacities))
 
@@ -176,7 +181,8 @@ def join(options: dict[str, str], data: bytes) -> int:
         lemmas += found["lemmas"]
         best += [found["starts"]] if found["starts"] else []
         refuted |= {name.strip("-")} if found["refuted"] else set()
-        if not found["refuted"] and not any(other.strip("-").startswith(name.strip("-")) for other, *_ in rows[place + 1 :]):
+        if not found["refuted"] and not any(other.strip("-").startswith(name.strip("-")) for other,
+                                            *_ in rows[place + 1 :]):
             print(f"psprove: cube {name}: its log does not refute it", file=sys.stderr)
     is_whole = sum(0.5 ** len(name) for name in refuted) == 1
     least, end = max(Project(data).durations), min((starts[-1] for starts in best), default=None)
@@ -204,7 +210,8 @@ def verify(options: dict[str, str], data: bytes, seconds: float) -> int:
     is_true = claim == ("no schedule" if end is None else f"optimal {end}") or (
         claim.startswith("bound ") and (end is None or int(claim.split()[1]) <= end))
     begin = f"part {part} of " if part else ""
-    print(f"{begin}proved {claim}" if is_true else "psprove: event 1: claim", file=sys.stdout if is_true else sys.stderr)
+    print(f"{begin}proved {claim}" if is_true else "psprove: event 1: claim",
+          file=sys.stdout if is_true else sys.stderr)
     return 0 if is_true else 4
 
 

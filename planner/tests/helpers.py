@@ -84,7 +84,8 @@ def begun(*words: object, psprove: str = PSPROVE) -> subprocess.Popen[str]:
     """The same by its file and a Python of its own."""
     path = f"{pathlib.Path(sys.executable).parent}:{os.environ['PATH']}"  # with the Python of the tests first
     env = {**os.environ, **CALLED, "PSPROVE": psprove, "PATH": path}
-    return subprocess.Popen([PLAN, *map(str, words)], text=True, env=env, stdout=subprocess.PIPE, stderr=subprocess.PIPE,
+    return subprocess.Popen([PLAN, *map(str, words)], text=True, env=env, stdout=subprocess.PIPE,
+                            stderr=subprocess.PIPE,
                             preexec_fn=copied.end_at_once)
 
 

@@ -9,7 +9,8 @@ UNPACKED = 60_000_000  # of a part of a spreadsheet file, whose parts may have 6
 
 HEADS = "activity,days"
 XML = '<Project xmlns="http://schemas.microsoft.com/project">'
-ENTITIES = "<!DOCTYPE a [<!ENTITY a0 'x'>" + "".join(f"<!ENTITY a{i} '{f'&a{i - 1};' * 10}'>" for i in range(1, 9)) + "]>"
+ENTITIES = "<!DOCTYPE a [<!ENTITY a0 'x'>" + "".join(f"<!ENTITY a{i} '{f'&a{i - 1};' * 10}'>"
+                                                     for i in range(1, 9)) + "]>"
 XER = "ERMHDR\t8.0\n%T\tPROJECT\n%F\tproj_id\tclndr_id\tplan_start_date\n%R\t1\t1\t2026-03-02 08:00\n"
 CALENDARS = "%T\tCALENDAR\n%F\tclndr_id\tbase_clndr_id\tclndr_data\n"
 TASKS = "%T\tTASK\n%F\ttask_id\tproj_id\tclndr_id\ttask_code\ttask_name\ttarget_drtn_hr_cnt\ttask_type\n"
@@ -22,7 +23,8 @@ OWN = f"%R\t2\t\t{WEEK.format('').replace('16:00', '15:00')}\n"  # another calen
 Texts = Iterator[tuple[str, str | bytes]]
 
 # What a file holds over and over, whatever it is called.
-PIECES = {"newlines": "\n", "commas": ",", "braces": "{}", "quotes": '"', "line": "a", "titles": "title,x\n", "deep": "[",
+PIECES = {"newlines": "\n", "commas": ",", "braces": "{}", "quotes": '"', "line": "a", "titles": "title,x\n",
+          "deep": "[",
           "nuls": "\0"}
 SUFFIXES = "csv", "tsv", "json", "xlsx", "xer", "xml", "mpp"
 
@@ -71,7 +73,8 @@ def objects() -> Texts:
     yield "short-deep.json", filled("[", SHORT)
     yield "digits.json", '{"a": ' + filled("9", SHORT)
     yield "text.json", '{"a": "' + filled("x", SHORT)
-    yield "activities.json", '{"format": "psmax-project 1", "activities": [' + numbered('{{"name": "a{0}"}}, ', 180_000) + "7]}"
+    rows = numbered('{{"name": "a{0}"}}, ', 180_000)
+    yield "activities.json", '{"format": "psmax-project 1", "activities": [' + rows + "7]}"
 
 
 def elements() -> Texts:
@@ -106,10 +109,12 @@ def spreadsheets(book: bytes) -> Texts:
             ("runs", SHEET, sheet + cell, b"<r><t>a</t></r>", b"</is></c></row>" + end),
             ("text", SHEET, sheet + cell + b"<t>", b"a", b"</t></is></c></row>" + end),
             ("deep", SHEET, sheet, b"<a>", b""),
-            ("styles", "xl/styles.xml", b"<styleSheet xmlns='%s'><cellXfs>" % SPACE, b"<xf/>", b"</cellXfs></styleSheet>"),
+            ("styles", "xl/styles.xml", b"<styleSheet xmlns='%s'><cellXfs>" % SPACE, b"<xf/>",
+             b"</cellXfs></styleSheet>"),
             ("kinds", "[Content_Types].xml", b"<Types>", b"<a/>", b"</Types>")):
         yield f"{name}.xlsx", with_part(book, part, begin + piece * (UNPACKED // len(piece)) + stop)
-    yield "far.xlsx", with_part(book, SHEET, sheet + b"<row r='999999999'><c r='ZZZZZ999999999'><v>1</v></c></row>" + end)
+    yield "far.xlsx", with_part(book, SHEET, sheet + b"<row r='999999999'><c r='ZZZZZ999999999'><v>1</v></c></row>"
+                                + end)
     yield "more.xlsx", with_part(book, "xl/media/image1.png", bytes(2 * UNPACKED))
     entities = ENTITIES.encode() + sheet + cell + b"<t>&a8;</t></is></c></row>" + end
     yield "entities.xlsx", with_part(book, SHEET, entities)

@@ -40,7 +40,8 @@ def report(told: Row) -> Row:
 def answer(told: Row) -> Row:
     starts = told.get("starts")
     status = "unknown" if starts is None else "optimal" if starts[-1] == told["bound"] else "feasible"
-    return {"conflicts": 1, "bound": told["bound"], "makespan": None if starts is None else starts[-1], "starts": starts,
+    return {"conflicts": 1, "bound": told["bound"], "makespan": None if starts is None else starts[-1],
+            "starts": starts,
             "status": status}
 
 

@@ -17,7 +17,8 @@ WEEK = ("--from", "2026-03-02", "--workdays", "mon-fri")
 # The table that was read as a longer project. By hand: from Thursday 5 March on, digging ends on Friday evening, and
 # the wall begins on Tuesday: Thursday, Friday, Monday and Tuesday are 4 days. Six would be right if digging ended on
 # another day.
-GERMAN = "from;05.03.2026;;\nworkdays;Mo-Fr;;\nID;Task Name;Duration;Predecessors\n1;Aushub;2 d;\n2;Mauer;1 d;1FS+3 cd\n"
+GERMAN = ("from;05.03.2026;;\nworkdays;Mo-Fr;;\n"
+          "ID;Task Name;Duration;Predecessors\n1;Aushub;2 d;\n2;Mauer;1 d;1FS+3 cd\n")
 ENGLISH = "from,2026-03-05,,\nworkdays,mon-fri,,\nID,Task Name,Duration,Predecessors\n1,dig,2 d,\n2,wall,1 d,1FS+3 cd\n"
 
 
@@ -49,7 +50,8 @@ class CalendarDays(InFolder):
         """By hand: the wall on the second day of work after the Friday is right, and on the first one it is not."""
         table = self.file("p.csv", ENGLISH)
         ran = plan("check", table, self.file("a.csv", "name,start\ndig,0\nwall,2\n"))
-        self.assertEqual((ran.returncode, ran.stdout), (4, "2 (wall) must start at least 3 calendar days after 1 (dig) ends, "
+        self.assertEqual((ran.returncode, ran.stdout), (4, "2 (wall) must start at least 3 calendar days after 1 (dig) "
+                                                        "ends, "
                                                         "and starts on 2026-03-09, which is 1 d too soon\n"))
         self.assertEqual(plan("check", table, self.file("a.csv", "name,start\ndig,0\nwall,3\n")).stdout,
                          "feasible, ends Tue 2026-03-10 (4 d)\n")
@@ -63,7 +65,8 @@ class CalendarDays(InFolder):
     def test_other_cases(self) -> None:
         """By hand: seven days are five of work from any day on; without days off, and from the start of pouring."""
         for rows, words, wanted in (
-            ("pour,1,,,\nstrip,1,pour,7 cd,\n", WEEK, "optimal 7"), ("pour,1,,,\nstrip,1,pour,3 cd,\n", WEEK[:2], "optimal 5"),
+            ("pour,1,,,\nstrip,1,pour,7 cd,\n", WEEK, "optimal 7"),
+            ("pour,1,,,\nstrip,1,pour,3 cd,\n", WEEK[:2], "optimal 5"),
             ("pour,1,,,\nstrip,1,start of pour,3 cd,\n", WEEK, "optimal 4"),
             ("pour,0,,,\nstrip,1,pour,3 cd,\n", WEEK, "optimal 4"),
             ("pour,1,,,\nstrip,1,pour,,3 cd\nwait,4,,,\n", WEEK, "optimal 4"),
@@ -94,12 +97,14 @@ class CalendarDays(InFolder):
 
     def test_hours(self) -> None:
         """By hand: 8 hours a day; after Monday 16:00 two days are 16 hours, so 8 + 16 + 4."""
-        self.assertEqual(self.solved("pour,1,,,\nstrip,4 h,pour,2 cd,\n", *WEEK, "--shift", "08:00-16:00"), "optimal 28")
+        self.assertEqual(self.solved("pour,1,,,\nstrip,4 h,pour,2 cd,\n", *WEEK, "--shift", "08:00-16:00"),
+                         "optimal 28")
 
     def test_where_clocks_change(self) -> None:
         """By hand, around the clock from Saturday noon on: until Sunday noon it is 23 hours where clocks are put
         forward."""
-        table = self.file("p.csv", "from,2026-03-28 11:00\nactivity,hours,after,at least\npour,1,,\nstrip,1,pour,1 cd\n")
+        table = self.file("p.csv", "from,2026-03-28 11:00\nactivity,hours,after,at least\npour,1,,\nstrip,1,pour,1 "
+                          "cd\n")
         self.assertEqual(plan("solve", table, "--zone", "Europe/Berlin").stdout.partition("\n")[0], "optimal 25")
         self.assertEqual(plan("solve", table).stdout.partition("\n")[0], "optimal 26")
 

@@ -18,12 +18,14 @@ class Chance:
     def __init__(self, seed: int, by_shift: bool) -> None:
         self.chance = random.Random(seed)
         workdays = frozenset(self.chance.sample(range(7), self.chance.randint(1, 7)))
-        holidays = frozenset(datetime.date(2026, 3, self.chance.randint(1, 31)) for _ in range(self.chance.randint(0, 6)))
+        holidays = frozenset(datetime.date(2026, 3, self.chance.randint(1, 31))
+                             for _ in range(self.chance.randint(0, 6)))
         first = datetime.datetime(2026, 3, self.chance.randint(1, 9), self.chance.choice((0, 9, 13)) if by_shift else 0)
         minutes, shift = self.chance.choice((30, 60)), self.chance.choice(SHIFTS)
         days = Days(first.date(), 1, workdays, holidays)
         self.calendar: Calendar = Shifts(first, minutes, days, shift) if by_shift else days
-        parts = [(begin, begin + minutes) for part in shift for begin in range(*part, minutes)] if by_shift else [(0, 1440)]
+        parts = [(begin, begin + minutes) for part in shift
+                 for begin in range(*part, minutes)] if by_shift else [(0, 1440)]
         self.periods: list[Period] = []
         midnight = datetime.datetime(first.year, first.month, first.day)
         while len(self.periods) < 60:

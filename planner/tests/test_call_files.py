@@ -32,7 +32,8 @@ CALLS: list[tuple[tuple[str, ...], list[str], list[str]]] = [
     (("report", "w.json", "w.st", *START), ["w.json", "w.st", "s.st"], ["--out"]),
     (("whatif", *COMMON), READ, ["--out"]),
     (("watch", "w.csv", *START), ["w.csv", "s.st"], ["--record"]),
-    (("watch", "w.csv", "--holidays", "free.txt", "--absences", "away.csv"), ["w.csv", "free.txt", "away.csv"], ["--record"]),
+    (("watch", "w.csv", "--holidays", "free.txt", "--absences", "away.csv"), ["w.csv", "free.txt", "away.csv"],
+     ["--record"]),
     (("read", "w.csv"), ["w.csv", "free.txt", "away.csv"], ["--out"]),
     (("read", "w.sch"), ["w.sch"], ["--out"]),
     (("read", "w.json"), ["w.json"], ["--out"]),
@@ -61,7 +62,8 @@ class Names(InFolder):
         self.file("w.json", (TOP / "examples" / "formats" / "bridge.json").read_bytes())
         self.file("known.csv", "project,lower,upper\n")
         for name in ("one", "two"):
-            self.file(f"{name}.csv", "project,activities,status,makespan,bound,seconds,conflicts,limit,plan,psprove,fault\n")
+            heads = "project,activities,status,makespan,bound,seconds,conflicts,limit,plan,psprove,fault\n"
+            self.file(f"{name}.csv", heads)
 
     def texts(self) -> dict[str, bytes]:
         return {path.name: path.read_bytes() for path in self.folder.iterdir()}
@@ -137,7 +139,8 @@ class Names(InFolder):
         """Whether a file lies in a folder, by links too, also where it is not there yet."""
         (self.folder / "a" / "b").mkdir(parents=True)
         (self.folder / "link").symlink_to(self.folder / "a" / "b")
-        for name, is_below in (("a/x", True), ("a/b/x", True), ("link/x", True), ("x", False), ("a", False), ("a/../x", False)):
+        for name, is_below in (("a/x", True), ("a/b/x", True), ("link/x", True), ("x", False), ("a", False),
+                               ("a/../x", False)):
             self.assertEqual(lies_in(f"{self.folder / name}", f"{self.folder}/a"), is_below, name)
         with self.assertRaisesRegex(BadInput, "lies in"):
             lose_none({}, [f"{self.folder}/link/x"], f"{self.folder}/a")

@@ -32,7 +32,8 @@ def solved(matrix: Matrix, vector: Vector) -> Vector:
     def determinant(m: Matrix) -> float:
         return (m[0][0] * (m[1][1] * m[2][2] - m[1][2] * m[2][1]) - m[0][1] * (m[1][0] * m[2][2] - m[1][2] * m[2][0])
                 + m[0][2] * (m[1][0] * m[2][1] - m[1][1] * m[2][0]))
-    columns = [tuple(tuple(vector[i] if j == k else matrix[i][j] for j in range(3)) for i in range(3)) for k in range(3)]
+    columns = [tuple(tuple(vector[i] if j == k else matrix[i][j] for j in range(3)) for i in range(3))
+               for k in range(3)]
     return tuple(determinant(one) / determinant(matrix) for one in columns)
 
 
@@ -103,7 +104,8 @@ class Rulers(unittest.TestCase):
                 calendar = WorkTime(first, **days).calendar()
                 axis = DateAxis(Drawing("", (), 0, length, (), (), calendar=calendar), calendar, width)
                 self.assertEqual(["|".join(band.names[0] for band in row) for row in axis.bands()], bands)
-                told = [" ".join(f"{axis.origin + as_timedelta(int(place)):%a %H:%M}" for place in (one.begins, one.ends))
+                told = [" ".join(f"{axis.origin + as_timedelta(int(place)):%a %H:%M}"
+                                 for place in (one.begins, one.ends))
                         for one in axis.shades()]
                 self.assertEqual(told, shades)
                 self.assertTrue(all(one.is_free == ("workdays" in days) for one in axis.shades()))

@@ -104,10 +104,12 @@ class Clients(InFolder):
             for (title, begins, ends), zone in zip(TIMES, zones)])
         self.assertEqual(len({row[0] for row in found}), 3)
 
-    @unittest.skipUnless(shutil.which("xsltproc") and STYLE.exists(), "xsltproc or GNOME Planner isn't here: install planner")
+    @unittest.skipUnless(shutil.which("xsltproc") and STYLE.exists(),
+                         "xsltproc or GNOME Planner isn't here: install planner")
     def test_gnome_planner(self) -> None:
         """Its importer has the tasks with the starts of the schedule, their links and what they need."""
-        path, best, planned = self.file("hall.xml", HALL.read_text()), self.folder / "best.csv", self.folder / "planned.xml"
+        path = self.file("hall.xml", HALL.read_text())
+        best, planned = self.folder / "best.csv", self.folder / "planned.xml"
         self.assertEqual(plan("solve", path, "--jobs", "1", "--out", best).returncode, 0)
         self.assertEqual(plan("write", path, best, "--out", planned).returncode, 0)
         text = self.ran("xsltproc", STYLE, planned)
@@ -118,7 +120,8 @@ class Clients(InFolder):
         self.assertIn('predecessor-id="5" type="FF" lag="28800"', text)
         self.assertIn('<allocation task-id="5" resource-id="2" units="100"/>', text)
 
-    @unittest.skipUnless(shutil.which("xsltproc") and STYLE.exists(), "xsltproc or GNOME Planner isn't here: install planner")
+    @unittest.skipUnless(shutil.which("xsltproc") and STYLE.exists(),
+                         "xsltproc or GNOME Planner isn't here: install planner")
     def test_a_table_in_gnome_planner(self) -> None:
         """Its importer has the groups with their activities, the links with their lags and the notes of a table."""
         table, made = self.file("t.csv", GROUPED), self.folder / "t.xml"

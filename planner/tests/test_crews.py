@@ -29,7 +29,8 @@ class ByHand(InFolder):
     def test_a_turnaround(self) -> None:
         table, answer, record = self.file("p.csv", TABLE), self.folder / "a.csv", self.folder / "r.rec"
         ran = plan("solve", table, "--out", answer, "--record", record, "--jobs", "1")
-        self.assertEqual((ran.returncode, ran.stdout), (0, "optimal, ends Mon 2026-03-09 04:00 (166 hours)\n"), ran.stderr)
+        self.assertEqual((ran.returncode, ran.stdout), (0, "optimal, ends Mon 2026-03-09 04:00 (166 hours)\n"),
+                         ran.stderr)
         self.assertIn("welders 06:00-18:00, fitters 18:00-06:00, hours up to ", ran.stderr)
         rows = [line.split(",") for line in plan("write", table, answer).stdout.splitlines()[1:]]
         self.assertEqual([(row[0], row[-2], row[-1]) for row in rows], [
@@ -73,14 +74,17 @@ class ByHand(InFolder):
         side on Monday 14:00."""
         table = self.file("p.csv", 'from,2026-03-02 06:00\nactivity,hours,"crew (1, 06:00-18:00)"\na,8,1\nb,8,1\n')
         told = plan("whatif", table, "--jobs", "1").stdout
-        self.assertIn("As it is: optimal, ends Tue 2026-03-03 14:00 (32 hours).\n  optimal, ends Mon 2026-03-02 14:00 (8 hours)"
+        self.assertIn("As it is: optimal, ends Tue 2026-03-03 14:00 (32 hours).\n  optimal, ends Mon 2026-03-02 14:00 "
+                      "(8 hours)"
                       ": one more of crew, of which there is 1\n", told)
 
     def test_absences_within_hours(self) -> None:
         """By hand: the crew of two is away on Tuesday, and one of it on Wednesday until 12:00; 8 hours of both fit
         after that, on Thursday."""
-        self.file("away.csv", "resource,from,to,units\ncrew,2026-03-03,2026-03-03,\ncrew,2026-03-04,2026-03-04 12:00,1\n")
-        table = self.file("p.csv", 'from,2026-03-03\nabsences,away.csv\nactivity,hours,"crew (2, 06:00-18:00)"\na,8,2\n')
+        self.file("away.csv", "resource,from,to,units\ncrew,2026-03-03,2026-03-03,\ncrew,2026-03-04,2026-03-04 "
+                  "12:00,1\n")
+        table = self.file("p.csv", 'from,2026-03-03\nabsences,away.csv\nactivity,hours,"crew (2, '
+                          '06:00-18:00)"\na,8,2\n')
         ran = plan("solve", table, "--jobs", "1", "--out", self.folder / "a.csv")
         self.assertEqual(ran.stdout, "optimal, ends Thu 2026-03-05 14:00 (62 hours)\n", ran.stderr)
 
@@ -101,7 +105,8 @@ class Drawn:
         rows = ["activity,days,x (1; Mo-Fr),\"y (1, mon,wed,fri)\",after,at least,at most,may pause"]
         for i, (days, crew) in enumerate(zip(self.days, self.crews)):
             rows.append(f"{'abc'[i]},{days},{'1,' if crew == 'x' else ',1'},,,,yes")
-            rows += [f",,,,{'abc'[first]},0,{'' if most is None else most}," for first, last, most in self.lags if last == i]
+            rows += [f",,,,{'abc'[first]},0,{'' if most is None else most}," for first, last,
+                     most in self.lags if last == i]
         return "\n".join(rows) + "\n"
 
     def runs(self, i: int) -> dict[int, list[int]]:
@@ -145,7 +150,8 @@ class AllStarts(InFolder):
 class Hours(unittest.TestCase):
     def test_read(self) -> None:
         for text, days, spans in (("06:00-18:00", None, ((360, 1080),)), ("nights", None, ((1080, 1800),)),
-                                  ("Mo-Fr", {0, 1, 2, 3, 4}, ((0, 1440),)), ("mon,wed 22:00 - 06:00", {0, 2}, ((1320, 1800),)),
+                                  ("Mo-Fr", {0, 1, 2, 3, 4}, ((0, 1440),)),
+                                  ("mon,wed 22:00 - 06:00", {0, 2}, ((1320, 1800),)),
                                   ("13:00-17:00, 08:00-12:00", None, ((480, 720), (780, 1020)))):
             with self.subTest(text):
                 found = read_hours(text)
@@ -172,17 +178,22 @@ class Refused(InFolder):
             (begin + '"crew (2, soon)"\na,1,1\n', "'soon': not hours such as 06:00-18:00, nights, or Mo-Fr"),
             (begin + "crew (2, 06:00-18:00)\na,1,1\n", "a name with a comma in it stands in quotes"),
             ("activity,hours,crew (2; nights)\na,1,1\n", "hours need --from"),
-            ("shift,08:00-16:00\n" + begin + "crew (2; 06:00-14:00)\na,1,1\n", "these go beyond the hours of the project"),
-            ("from,2026-03-02\nworkdays,mon-fri\nactivity,days,crew (1; Mo-Sa)\na,1,1\n", "go beyond the hours of the project"),
+            ("shift,08:00-16:00\n" + begin + "crew (2; 06:00-14:00)\na,1,1\n",
+             "these go beyond the hours of the project"),
+            ("from,2026-03-02\nworkdays,mon-fri\nactivity,days,crew (1; Mo-Sa)\na,1,1\n",
+             "go beyond the hours of the project"),
             ("from,2026-03-02\nactivity,days,crew (1; nights)\na,1,1\nb,4 h,\n", "until --shift says others"),
-            (begin + "crew (2; nights)\na,13,1\n", "13 hours, and all that it needs is there for 12 hours at a time; 'yes' in "
-             "a column 'may pause' cuts it"),
+            (begin + "crew (2; nights)\na,13,1\n", "13 hours, and all that it needs is there for 12 hours at a time; "
+             "'yes' in a column 'may pause' cuts it"),
             (begin + "x (1; days),y (1; nights)\na,1,1,1\n", "all that it needs is never there at once"),
-            (begin + "crew (2; 06:00-10:00 12:00-18:00),may pause\na,13,1,yes\n", "are not of one length; write a row for "),
+            (begin + "crew (2; 06:00-10:00 12:00-18:00),may pause\na,13,1,yes\n",
+             "are not of one length; write a row for "),
             (begin + "crew (2; days),may pause\na,13,1,perhaps\n", "'perhaps' is neither yes nor no"),
-            ("horizon,2026-04-01\n" + begin + "note\na,3,\n", "row 1: horizon 2026-04-01: no resource has hours of its own"),
+            ("horizon,2026-04-01\n" + begin + "note\na,3,\n",
+             "row 1: horizon 2026-04-01: no resource has hours of its own"),
             ("shift,08:00-16:00\n" + begin + "note\na,3 cd,\n", "depends on its date"),
-            ("period,4 hours\n" + begin + "crew (2; 06:30-18:30)\na,4,1\n", "is within a period; choose a shorter --period"),
+            ("period,4 hours\n" + begin + "crew (2; 06:30-18:30)\na,4,1\n",
+             "is within a period; choose a shorter --period"),
         ):
             with self.subTest(text):
                 ran = plan("check", self.file("p.csv", text))

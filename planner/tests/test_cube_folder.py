@@ -29,7 +29,8 @@ def made() -> tempfile.TemporaryDirectory[str]:
     (folder / "psprove").write_text(f'#!/bin/sh\nexec {sys.executable} -ES {compiled(STAND_IN)} 0 "$@"\n')
     (folder / "psprove").chmod(0o755)
     with in_four():
-        ran = plan("solve", folder / "four.sch", "--out", f"{folder}/cubes/", "--jobs", "1", psprove=f"{folder}/psprove")
+        ran = plan("solve", folder / "four.sch", "--out", f"{folder}/cubes/", "--jobs", "1",
+                   psprove=f"{folder}/psprove")
     assert ran.returncode == 0, ran.stderr
     return kept
 
@@ -72,7 +73,8 @@ class Foreign(Solved):
 
     def test_other_marks(self) -> None:
         zeros = "0" * 64
-        for text, told in (("", "is no mark of a folder of cubes"), (f"psmax cubes 3 {zeros}\n", "of version 3, and this"),
+        for text, told in (("", "is no mark of a folder of cubes"),
+                           (f"psmax cubes 3 {zeros}\n", "of version 3, and this"),
                            (f"psmax cubes 2 {zeros}\n", "begun with")):
             (self.out / "mark").write_text(text)
             self.run_all(2, told)
@@ -82,7 +84,8 @@ class Foreign(Solved):
         there = self.folder / "there"
         there.mkdir()
         self.file("there/letter", VICTIM)
-        for name in ("incoming", "cubes", "proved", "start", "tree", "token", "rows", "project.sch", "record", "cubes/1.log"):
+        for name in ("incoming", "cubes", "proved", "start", "tree", "token", "rows", "project.sch", "record",
+                     "cubes/1.log"):
             self.link(name, there if name in ("incoming", "cubes") else there / "letter")
             self.run_all(2, f"{self.out / name} is a link; nothing in a folder of cubes is one")
             os.rename(self.out, self.folder / f"seen-{name.replace('/', '-')}")
@@ -157,7 +160,8 @@ class Answers(InFolder):
 
     def row(self, **more: object) -> dict[str, Any]:
         data = {kind: zlib.compress(kind.encode()) for kind in ("log", "lemmas")}
-        files = {kind: {"sha256": hashlib.sha256(kind.encode()).hexdigest(), "data": packed} for kind, packed in data.items()}
+        files = {kind: {"sha256": hashlib.sha256(kind.encode()).hexdigest(), "data": packed} for kind,
+                 packed in data.items()}
         return {"cube": "refuted", "starts": None, "pieces": [], "conflicts": 1, "record_bytes": 1, "seconds": 0.5,
                 "files": files} | more
 
@@ -179,9 +183,11 @@ class Answers(InFolder):
                                            {"conflicts": True}, {"conflicts": 10**20}, {"seconds": float("nan")},
                                            {"seconds": -1}, {"cube": "proved"}, {"files": {}})
         names: list[list[object]] = [["0"], ["0", "0"], ["0", "1", "1"], ["", ""], ["2", "1"], ["0", "../x"], [0, 1]]
-        files = (f"{victim}", "../victim", None, {"sha256": f"{victim}", "data": None}, {"sha256": sha256, "data": None},
+        files = (f"{victim}", "../victim", None, {"sha256": f"{victim}", "data": None},
+                 {"sha256": sha256, "data": None},
                  {"sha256": f"../victim{sha256[9:]}", "data": None}, {"sha256": sha256, "data": b"x"},
-                 {"sha256": sha256, "data": zlib.compress(b"other")}, {"sha256": sha256, "data": zlib.compress(b"x")[:-3]})
+                 {"sha256": sha256, "data": zlib.compress(b"other")},
+                 {"sha256": sha256, "data": zlib.compress(b"x")[:-3]})
         strange: list[object] = [None, [], 7, {}, self.row(pieces=[{}]), *(self.row(**told) for told in odd)]
         strange += [self.row(cube="open", pieces=[{"name": one, "arcs": []} for one in told]) for told in names]
         strange += [self.row(files=self.row()["files"] | {"log": told}) for told in files]
@@ -206,7 +212,8 @@ class Sums(InFolder):
     def test_rows(self) -> None:
         """By hand: `crc32` of zlib over the row without its checksum, as eight digits."""
         row = json.dumps({"step": "lost", "number": 3})
-        self.assertEqual(with_sum(row), '{"step": "lost", "number": 3, "sum": "' + f"{zlib.crc32(row.encode()):08x}" + '"}')
+        self.assertEqual(with_sum(row), '{"step": "lost", "number": 3, "sum": "' + f"{zlib.crc32(row.encode()):08x}"
+                         + '"}')
         self.assertEqual(json.loads(with_sum(row))["number"], 3)
 
     def test_clean(self) -> None:

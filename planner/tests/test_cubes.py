@@ -128,7 +128,8 @@ class Here(InCubes):
         self.assertIn("schedule 9: cube ", told)
         self.assertEqual(len(self.rows("ended")), 17)
         self.assertEqual(plan("status", self.out).stdout.splitlines()[:3], [
-            "cubes: 16 refuted, 0 open, 0 running; 100.0 % of the tree", "best schedule: 9", "bound: 9, by the last join"])
+            "cubes: 16 refuted, 0 open, 0 running; 100.0 % of the tree", "best schedule: 9",
+            "bound: 9, by the last join"])
         self.solved("--jobs", "2")
         self.assertEqual((len(self.rows("first")), len(self.rows("ended"))), (1, 17))
 
@@ -185,7 +186,8 @@ class Here(InCubes):
 
     def test_a_search_that_fails(self) -> None:
         """Each time: the cube is named, and the same command with a psprove that works goes on."""
-        bad = self.program("bad", f"case $* in *--under*) echo psprove: no memory >&2; exit 1;; esac\nexec {self.psprove()} $*")
+        bad = self.program("bad", "case $* in *--under*) echo psprove: no memory >&2; exit 1;; esac\nexec "
+                           f"{self.psprove()} $*")
         ran = plan("solve", self.project, "--out", f"{self.out}/", psprove=bad)
         self.assertEqual((ran.returncode, ran.stdout), (1, ""))
         self.assertIn("plan: cube - failed 3 times: psprove solve ended with status 1: no memory\n", ran.stderr)
@@ -194,7 +196,8 @@ class Here(InCubes):
 
     def test_the_time_is_over(self) -> None:
         """What is known then is the answer, and the record proves the bound."""
-        ran = plan("solve", self.project, "--out", f"{self.out}/", "--seconds", "2", "--jobs", "1", psprove=self.psprove(0.3))
+        ran = plan("solve", self.project, "--out", f"{self.out}/", "--seconds", "2", "--jobs", "1",
+                   psprove=self.psprove(0.3))
         self.assertEqual(ran.returncode, 3)
         self.assertRegex(ran.stdout, "^(feasible [0-9]+|unknown) bound [0-9]\n")
         self.assertIn("the 2 seconds are over; the same command goes on from here\n", ran.stderr)
@@ -211,7 +214,8 @@ class Here(InCubes):
         self.assertEqual((told["status"], told["makespan"], told["names"]), ("optimal", 11, ["lift", "turn"]))
         self.assertEqual(sorted(told["starts"])[:2], [0, 4])
         self.assertEqual(plan("status", self.out).stdout.splitlines()[:3], [
-            "cubes: 4 refuted, 0 open, 0 running; 100.0 % of the tree", "best schedule: 11", "bound: 11, by the last join"])
+            "cubes: 4 refuted, 0 open, 0 running; 100.0 % of the tree", "best schedule: 11",
+            "bound: 11, by the last join"])
 
     def test_words(self) -> None:
         """Folders that are none of cubes, or of another project; a cluster without a folder."""
@@ -264,7 +268,8 @@ class ByPsprove(InCubes):
         """Then there is no first search."""
         start = self.file("start", "0 0\n1 0\n2 7\n3 3\n4 5\n5 9\n")
         ran = plan("solve", self.project, "--out", f"{self.out}/", "--start", start)
-        self.assertEqual((ran.returncode, ran.stdout.splitlines()[0], self.rows("first")), (0, "optimal 9", []), ran.stderr)
+        self.assertEqual((ran.returncode, ran.stdout.splitlines()[0], self.rows("first")), (0, "optimal 9", []),
+                         ran.stderr)
 
     def test_wrong_logs(self) -> None:
         self.assertNotIn("is put aside", self.lots())
@@ -289,7 +294,8 @@ class Search(InCubes):
         files = {"project": FOUR.encode(), "path": b"1 2 3\n", "import": b"", "start": b""}
         packed = {name: zlib.compress(data) for name, data in files.items()}
         limits = {"conflicts": 10**6, "pieces": 4, "below": 10}
-        return cube.search_cube({"program": self.psprove(seconds), "run": "none", "folder": "/", **limits, **packed}, ask, 0.05)
+        return cube.search_cube({"program": self.psprove(seconds), "run": "none", "folder": "/", **limits, **packed},
+                                ask, 0.05)
 
     def test_shorter_schedules(self) -> None:
         """They come while it runs. Without the folder of the driver its files come back by themselves."""
@@ -319,7 +325,8 @@ class Chosen(unittest.TestCase):
         """Those of the cubes above come first, and then the shortest; each once, and no more than so many."""
         lemmas = Lemmas(["3 1 2 4 2 3 1\n", "2 5 6 1\n2 1 2 4\n"])
         self.assertEqual(lemmas.chosen([]), "2 1 2 4\n2 5 6 1\n3 1 2 4 2 3 1\n")
-        self.assertEqual(lemmas.chosen(["4 7 8 1 2 1 1\n5 5 6 1\n"]), "5 5 6 1\n4 7 8 1 2 1 1\n2 1 2 4\n3 1 2 4 2 3 1\n")
+        self.assertEqual(lemmas.chosen(["4 7 8 1 2 1 1\n5 5 6 1\n"]),
+                         "5 5 6 1\n4 7 8 1 2 1 1\n2 1 2 4\n3 1 2 4 2 3 1\n")
         lemmas.add("".join(f"2 {i} 1 1\n" for i in range(MOST_LEMMAS + 5)))
         self.assertEqual(len(lemmas.chosen(["2 9 8 7 6 5 4\n"]).splitlines()), MOST_LEMMAS)
 
@@ -358,7 +365,8 @@ class OnDask(InCubes):
         return child
 
     def worker(self) -> BaseProcess:
-        return self.dask("worker", self.address, "--host", "127.0.0.1", "--nworkers", "1", "--nthreads", "1", "--no-nanny",
+        return self.dask("worker", self.address, "--host", "127.0.0.1", "--nworkers", "1", "--nthreads", "1",
+                         "--no-nanny",
                          "--memory-limit", "0")
 
     def test_killed_and_restarted(self) -> None:

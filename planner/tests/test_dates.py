@@ -54,7 +54,8 @@ class Dates(InFolder):
                                ("2026-10-25", ("--zone", "Europe/Berlin"), "02:00"), ("2026-10-24", (), "03:00")):
             with self.subTest(day=day, zone=zone):
                 self.assertEqual(self.written("--from", day, *zone)[1], [f"{day} 00:00", f"{day} {end}"])
-        self.refused(self.ran("write", "--from", "2026-03-29", "--zone", "Mars/Base"), 2, "zone Mars/Base: no time zone")
+        self.refused(self.ran("write", "--from", "2026-03-29", "--zone", "Mars/Base"), 2,
+                     "zone Mars/Base: no time zone")
 
     def test_a_period_that_is_said_once(self) -> None:
         self.read("periods", "--from", "2026-03-02T06:00", "--period", "hours")
@@ -77,7 +78,8 @@ class Dates(InFolder):
         self.assertEqual(self.written(*words)[1:], wanted)
         self.assertEqual(self.written("--from", "2026-04-04", *words[2:])[1][0], "2026-04-07")
         self.assertEqual(self.written("--from", "2026-03-06", "--workdays", "mon-sat")[1], ["2026-03-06", "2026-03-09"])
-        self.assertEqual(self.written("--from", "2026-03-06", "--workdays", "sat-mon,wed")[1], ["2026-03-07", "2026-03-09"])
+        self.assertEqual(self.written("--from", "2026-03-06", "--workdays", "sat-mon,wed")[1],
+                         ["2026-03-07", "2026-03-09"])
 
     def test_once_in_the_page(self) -> None:
         """`plan read` writes the calendar into the page, keeps it there, and all commands take it from there."""
@@ -102,7 +104,8 @@ class Dates(InFolder):
         self.assertEqual([line.split()[2:] for line in lines[3:6]],
                          [["2026-04-02", "###.."], ["2026-04-06", "...|."], ["2026-04-07", "...##"]])
         self.assertEqual(self.ran("gantt", "--svg", self.folder / "p.svg").returncode, 0)
-        texts = [node.text for node in ElementTree.parse(self.folder / "p.svg").iter("{http://www.w3.org/2000/svg}text")]
+        picture = ElementTree.parse(self.folder / "p.svg")
+        texts = [node.text for node in picture.iter("{http://www.w3.org/2000/svg}text")]
         self.assertEqual(texts[1:5], ["April 2026", "CW 14", "CW 15", "Thu 2"])
         self.assertIn("04-07 \u2013 04-08", texts)
         self.assertIn("build: 2026-04-02 to 2026-04-06", (self.folder / "p.svg").read_text())
@@ -147,7 +150,8 @@ class Dates(InFolder):
         self.refused(self.ran("write", *first, "--workdays", "mon-fri"), 2, "are for periods of a day", "hours")
         self.read("days")
         self.refused(self.ran("write", *first, "--workdays", "mon-funday"), 2, "workdays mon-funday", "mon-fri")
-        self.refused(self.ran("write", *first, "--holidays", free), 2, "free.txt: line 2: 'soon'", "line 3: '2026-13-01'",
+        self.refused(self.ran("write", *first, "--holidays", free), 2, "free.txt: line 2: 'soon'",
+                     "line 3: '2026-13-01'",
                      faults=2)
         self.refused(self.ran("write", *first, "--holidays", self.folder / "gone"), 1, "cannot read")
         self.refused(self.ran("write", "--workdays", "mon-fri"), 2, "--workdays needs --from")

@@ -31,7 +31,8 @@ class Due(InFolder):
         plain = self.file("plain", plan("solve", self.table, *self.late).stdout)
         self.assertEqual(plain.read_text().splitlines()[-1], "5 9")
         self.assertEqual(plan("check", self.table, plain, *self.late).stdout, f"feasible lateness 3\n{MISSED}")
-        self.assertEqual(plan("solve", self.table, *self.late, "--out", self.answer).stdout, f"optimal lateness 3\n{MISSED}")
+        self.assertEqual(plan("solve", self.table, *self.late, "--out", self.answer).stdout,
+                         f"optimal lateness 3\n{MISSED}")
 
     def test_nothing_is_late(self) -> None:
         """By hand: what is due by 20 and ends by 9 is 11 early; a project of a lateness below 0 is one too."""
@@ -54,7 +55,8 @@ class Due(InFolder):
     def test_whatif_and_why(self) -> None:
         ran = plan("whatif", self.table, *self.late)
         self.assertEqual(ran.stdout.splitlines()[:2],
-                         ["As it is: optimal lateness 3.", "  optimal lateness 1: one more of machine, of which there is 1"])
+                         ["As it is: optimal lateness 3.",
+                          "  optimal lateness 1: one more of machine, of which there is 1"])
         told = plan("why", self.table, *self.late, "--within", 2).stdout
         self.assertIn("There is no schedule with a lateness of 2 or less.\nThis is impossible, by a proof of psprove; "
                       "without it "
@@ -75,5 +77,6 @@ class Due(InFolder):
         self.assertEqual(plan("solve", table, *words).stdout.partition("\n")[0], "optimal lateness 1")
 
     def test_faults(self) -> None:
-        self.refused(plan("solve", self.file("q.csv", "activity,days\na,6\n"), *self.late), 2, "needs a date in a column 'due'")
+        self.refused(plan("solve", self.file("q.csv", "activity,days\na,6\n"), *self.late), 2,
+                     "needs a date in a column 'due'")
         self.refused(plan("solve", self.table, "--minimize", "cost"), 2, "--minimize")

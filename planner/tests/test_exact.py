@@ -52,7 +52,8 @@ class Chance:
     def shortest(self) -> int | None:
         spaces = [[time for time in range(HORIZON) if self.is_within(i, time)] if start is None else [start]
                   for i, start in enumerate(self.started)]
-        return min((max(self.ends(starts)) for starts in itertools.product(*spaces) if self.keeps(starts)), default=None)
+        return min((max(self.ends(starts)) for starts in itertools.product(*spaces) if self.keeps(starts)),
+                   default=None)
 
     def is_within(self, i: int, start: int) -> bool:
         """Whether the dates of what has not started allow it to start then."""

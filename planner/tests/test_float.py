@@ -46,11 +46,13 @@ class Float(InFolder):
             "last day": "2026-03-04", "earliest": "0", "latest": "6", "free float": "6", "earliest day": "2026-03-02",
             "latest day": "2026-03-10"})
         self.assertEqual([row["name"] for row in rows if row["free float"] == "0"], ["b", "c", "end of lifting"])
-        self.assertEqual(plan("check", self.project, out, *words[2:]).stdout, "feasible, ends Tue 2026-03-10 (7 days)\n")
+        self.assertEqual(plan("check", self.project, out, *words[2:]).stdout,
+                         "feasible, ends Tue 2026-03-10 (7 days)\n")
 
     def test_charts(self) -> None:
         lines = plan("float", self.project, self.answer, "--chart").stdout.splitlines()
-        self.assertEqual([line.split()[-1] for line in lines[3:8]], ["...-#..", "###....", ".....##", "......|", "--#----"])
+        self.assertEqual([line.split()[-1] for line in lines[3:8]],
+                         ["...-#..", "###....", ".....##", "......|", "--#----"])
         self.assertEqual(plan("float", self.project, self.answer, "--svg", self.folder / "f.svg").stdout, "")
         picture = ElementTree.parse(self.folder / "f.svg")
         boxes = [node.get("class") for node in picture.iter("{http://www.w3.org/2000/svg}rect")]
@@ -80,11 +82,14 @@ class Float(InFolder):
         log = self.folder / "log"
         told = (f'echo "$1" >> {log}\nif [ "$1" = check ] && [ $(grep -c check {log}) -gt {{}} ]; then\n'
                 "echo lag 0 5 1; exit 4; fi\n")
-        ran = plan("float", self.project, self.answer, psmax=self.program("counts", told.format(9) + f'exec {PSMAX} "$@"'))
+        counts = self.program("counts", told.format(9) + f'exec {PSMAX} "$@"')
+        ran = plan("float", self.project, self.answer, psmax=counts)
         self.assertEqual((ran.returncode, log.read_text().split().count("check")), (0, 3), ran.stderr)
         log.unlink()
-        ran = plan("float", self.project, self.answer, psmax=self.program("lies", told.format(1) + f'exec {PSMAX} "$@"'))
-        self.refused(ran, 1, "psmax does not confirm that each of these may start so alone: activity 5 at 0, activity 1 at 3")
+        lies = self.program("lies", told.format(1) + f'exec {PSMAX} "$@"')
+        ran = plan("float", self.project, self.answer, psmax=lies)
+        self.refused(ran, 1, "psmax does not confirm that each of these may start so alone: activity 5 at 0, activity "
+                     "1 at 3")
 
     def test_faults(self) -> None:
         self.refused(plan("float", INPUTS / "two-jobs.sch", given=b"0 0\n1 0\n2 2\n3 6\n"), 2, "not a schedule")

@@ -71,7 +71,8 @@ class Charts(InFolder):
                 self.assertTrue(text.startswith("The answer is ") and len(text.splitlines()) == 1, text)
                 self.refused(plan("write", INPUTS / "two-jobs.sch", given=answer.encode()), 2, text.strip())
         for other in ("", " \n\n", "psmax: too long\n", "start 1\nlag 0 1 0\n", "lag 2 3 4\n", "overload 2 0 2\n",
-                      "feasible 7\n", "optimal 7\n", "feasible 9 bound 7\n", "proved optimal 7\n", "proved no schedule\n",
+                      "feasible 7\n", "optimal 7\n", "feasible 9 bound 7\n", "proved optimal 7\n",
+                      "proved no schedule\n",
                       "record 1\noptimal 7\nstarts 0 0 3 7\ncut\n", TWO_JOBS, "\0\1\2\n", "\ufffd\ufffd"):
             with self.subTest(other):
                 self.refused(plan("gantt", INPUTS / "two-jobs.sch", given=other.encode()), 2, "standard input: ")

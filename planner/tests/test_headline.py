@@ -106,14 +106,17 @@ class AsTheTableWritesThem(InFolder):
         self.assertIn("20 (Gerüst stellen)", page.read_text())
         again = self.file("again.csv", plan("write", self.table, self.answer).stdout)
         self.assertEqual(plan("check", self.table, again).returncode, 0)
-        rows = [f"{name},{start},15 minutes" for name, start in (("Gerüst stellen", 0), ("einheben", 51), ("abnehmen", 60))]
+        starts = {"Gerüst stellen": 0, "einheben": 51, "abnehmen": 60}
+        rows = [f"{name},{start},15 minutes" for name, start in starts.items()]
         wrong = self.file("wrong.csv", "\n".join(["name,start,period", *rows]))
-        self.assertIn("40 (abnehmen) must start no sooner than A-30 (einheben) ends", plan("check", self.table, wrong).stdout)
+        self.assertIn("40 (abnehmen) must start no sooner than A-30 (einheben) ends",
+                      plan("check", self.table, wrong).stdout)
 
     def test_dates_and_lengths(self) -> None:
         """By hand: 20 takes 12.75 hours from Monday at 06:00, which end on Tuesday at 10:15. A column has one unit."""
         written = [*csv.DictReader(io.StringIO(plan("write", self.table, self.answer).stdout))]
-        self.assertEqual([(row["from"], row["until"]) for row in written[:1]], [("13.04.2026 06:00", "14.04.2026 10:15")])
+        self.assertEqual([(row["from"], row["until"]) for row in written[:1]],
+                         [("13.04.2026 06:00", "14.04.2026 10:15")])
         self.assertEqual([row["length"] for row in written], ["12,75 h", "4 h", "17 h"])
 
     def test_slashes(self) -> None:

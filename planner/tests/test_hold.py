@@ -35,9 +35,11 @@ class Hold(InFolder):
         self.assertEqual(short.with_suffix(".sch").read_bytes(), long.with_suffix(".sch").read_bytes())
 
     def test_faults(self) -> None:
-        for cell, fault in (("with erect east,,", "no activity 'erect east'"), ("with erect north,0,", "has no other lags"),
+        for cell, fault in (("with erect east,,", "no activity 'erect east'"),
+                            ("with erect north,0,", "has no other lags"),
                             ("with erect north,,9", "has no other lags"), ("with,,", "no activity 'with'"),
                             ("with scaffold at the north wall,,", "an activity can't come after itself")):
             with self.subTest(cell):
                 table = self.file("p.csv", TABLE.replace("with erect north,,", cell))
-                self.refused(plan("read", table), 2, f"row 3, column D (after): {fault}" if "other" not in fault else fault)
+                self.refused(plan("read", table), 2, f"row 3, column D (after): {fault}" if "other" not in fault
+                             else fault)

@@ -56,7 +56,8 @@ class Holidays(InFolder):
     def test_without_the_package(self) -> None:
         with mock.patch.dict(sys.modules, {"holidays": None}):
             ran = plan("solve", self.file("p.csv", TABLE.format("DE-BY")))
-        self.refused(ran, 1, "holidays DE-BY needs the package holidays: install python3-holidays, or `pip install psmax[")
+        self.refused(ran, 1, "holidays DE-BY needs the package holidays: install python3-holidays, or `pip install "
+                     "psmax[")
 
     def test_a_file(self) -> None:
         """Days, ranges, names and notes, each on its line, as people write them."""
@@ -64,7 +65,8 @@ class Holidays(InFolder):
                 "15.05.2026-17.05.2026; bridge, and more\n18.05.2026 bis 18.05.2026\n2026-06-01 - pour\n")
         self.file("free.txt", text)
         self.assertEqual(self.told("free.txt"), [
-            "Tue 2026-04-07  the day after", "Mon 2026-05-04  closed", "Tue 2026-05-05  closed", "Wed 2026-05-06  closed",
+            "Tue 2026-04-07  the day after", "Mon 2026-05-04  closed", "Tue 2026-05-05  closed",
+            "Wed 2026-05-06  closed",
             "Fri 2026-05-15  bridge, and more", "Sat 2026-05-16  bridge, and more", "Sun 2026-05-17  bridge, and more",
             "Mon 2026-05-18", "Mon 2026-06-01  - pour"])
 

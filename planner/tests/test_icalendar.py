@@ -14,7 +14,8 @@ HOURS = ("ab;26.03.2026\nArbeitstage;Mo-Fr\nArbeitszeit;08:00-12:00,13:00-17:00\
          "Vorgang;Stunden;nach\nAushub;12;\nAbnahme;0;Aushub\nPflaster;8;Abnahme\n")
 NOW = datetime.datetime(2026, 3, 1, 12, tzinfo=datetime.UTC)
 # By hand: clocks in Berlin go forward on 29 March 2026 at 2, on 30 March 2025 at 2, and back on 26 October 2025 at 3.
-CHANGES = (("DAYLIGHT", "20250330T020000", "+0100", "+0200", "CEST"), ("STANDARD", "20251026T030000", "+0200", "+0100", "CET"),
+CHANGES = (("DAYLIGHT", "20250330T020000", "+0100", "+0200", "CEST"),
+           ("STANDARD", "20251026T030000", "+0200", "+0100", "CET"),
            ("DAYLIGHT", "20260329T020000", "+0100", "+0200", "CEST"))
 
 
@@ -37,7 +38,8 @@ class ICalendar(InFolder):
         more = self.uids(self.written(TABLE.format("Halle", "Einrichten,1,\n"), (0, 0, 2)))
         self.assertEqual({name: more[name] for name in first}, first)
         self.assertEqual(self.uids(self.written(TABLE.format("Halle", ""), (0, 2), "neu/kw12.csv")), first)
-        self.assertTrue({*self.uids(self.written(TABLE.format("Turm", ""), (0, 2))).values()}.isdisjoint(first.values()))
+        self.assertTrue({*self.uids(self.written(TABLE.format("Turm", ""),
+                                                 (0, 2))).values()}.isdisjoint(first.values()))
         alone = [self.uids(self.written(TABLE.replace("title,{}\n", "").format(""), (0, 2), name))
                  for name in ("a/p.csv", "b/p.csv", "a/q.csv", "a/p.csv")]
         self.assertEqual(len({one["Aushub"] for one in alone}), 3)
@@ -48,13 +50,15 @@ class ICalendar(InFolder):
             TABLE.format("Halle", ""), (0, 2)))
         text = self.written(HOURS, (0, 12, 12))
         self.assertIn("DTSTART;TZID=Europe/Berlin:20260327T120000\r\nSUMMARY:Abnahme", text)
-        self.assertIn("DTSTART;TZID=Europe/Berlin:20260327T130000\r\nDTEND;TZID=Europe/Berlin:20260330T120000\r\nSUMMARY:P",
+        self.assertIn("DTSTART;TZID=Europe/Berlin:20260327T130000\r\n"
+                      "DTEND;TZID=Europe/Berlin:20260330T120000\r\nSUMMARY:P",
                       text)
 
     def test_the_time_zone(self) -> None:
         text = self.written(HOURS, (0, 12, 12))
         self.assertEqual((text.count("BEGIN:VTIMEZONE\r\nTZID:Europe/Berlin\r\n"), text.count("END:VTIMEZONE")), (1, 1))
-        found = re.findall(r"BEGIN:(\w+)\r\nDTSTART:(\w+)\r\nTZOFFSETFROM:(\S+)\r\nTZOFFSETTO:(\S+)\r\nTZNAME:(\w+)", text)
+        found = re.findall(r"BEGIN:(\w+)\r\nDTSTART:(\w+)\r\nTZOFFSETFROM:(\S+)\r\nTZOFFSETTO:(\S+)\r\nTZNAME:(\w+)",
+                           text)
         self.assertEqual(tuple(found[1:]), CHANGES)
         self.assertEqual(found[0][2:], ("+0100", "+0100", "CET"))
         self.assertNotIn("TZID", self.written(HOURS.replace("Zeitzone;Europe/Berlin\n", ""), (0, 12, 12)))
@@ -65,7 +69,8 @@ class ICalendar(InFolder):
     def test_what_comes_later(self) -> None:
         """Each writing has a later stamp and a greater number, by which a client takes it for the newer one."""
         both = [self.written(HOURS, (0, 12, 12), now=NOW + datetime.timedelta(seconds=more)) for more in (0, 90)]
-        self.assertEqual([re.findall("DTSTAMP:(.*)\r\n", text)[0] for text in both], ["20260301T120000Z", "20260301T120130Z"])
+        self.assertEqual([re.findall("DTSTAMP:(.*)\r\n", text)[0] for text in both],
+                         ["20260301T120000Z", "20260301T120130Z"])
         numbers = [int(re.findall(r"SEQUENCE:(\d+)\r\n", text)[0]) for text in both]
         self.assertEqual(numbers[1] - numbers[0], 90)
         self.assertLess(numbers[1], 2 ** 31)

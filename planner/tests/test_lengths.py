@@ -31,7 +31,8 @@ class Dates(InFolder):
     def test_end_by(self) -> None:
         """By hand: two days by the 3rd or by period 2 start at 0 at the latest, and by the 2nd there is no schedule.
         The last day is the one that `why` and `check` name."""
-        for cell, told in (("2026-03-03", "optimal 2"), ("2", "optimal 2"), ("2026-03-08", "optimal 2"), ("2026-03-02", None),
+        for cell, told in (("2026-03-03", "optimal 2"), ("2", "optimal 2"), ("2026-03-08", "optimal 2"),
+                           ("2026-03-02", None),
                            ("1", None)):
             with self.subTest(cell):
                 table = self.file("p.csv", f"{HEADS}job,2,,,,{cell}\n")
@@ -44,7 +45,8 @@ class Dates(InFolder):
     def test_a_milestone_at_a_date(self) -> None:
         """It stands at the begin of its day where the date says so, and else at the end of the work before it."""
         table = self.file("p.csv", f"{HEADS}dig,2,,,,\ndone,0,dig,,,\ndelivery,0,,,2026-03-05,\nlift,1,delivery,,,\n")
-        rows = plan("write", table, self.file("a.csv", "name,start\ndig,0\ndone,2\ndelivery,3\nlift,3\n"), *MONDAY).stdout
+        rows = plan("write", table, self.file("a.csv", "name,start\ndig,0\ndone,2\ndelivery,3\nlift,3\n"),
+                    *MONDAY).stdout
         self.assertIn("2,done,2,0,2,2026-03-03,2026-03-03\n", rows)
         self.assertIn("3,delivery,3,0,3,2026-03-05,2026-03-05\n", rows)
         self.assertIn("4,lift,3,1,4,2026-03-05,2026-03-05\n", rows)
@@ -52,11 +54,13 @@ class Dates(InFolder):
         self.assertEqual(plan("check", table, back, *MONDAY).stdout, "feasible, ends Thu 2026-03-05 (4 days)\n")
 
     def test_faults(self) -> None:
-        for cells, told in ((",,3/2/2026,", "'3/2/2026': the day or the month may stand first; say which by --dates dmy"),
+        for cells, told in ((",,3/2/2026,", "'3/2/2026': the day or the month may stand first; say which by --dates "
+                             "dmy"),
                             (",,soon,", "'soon': not a date such as"), (",,2026-02-30,", "there is no such date"),
                             (",,,31.4.2026", "there is no such date"), (",,Tue 5.3.26,", "that day is a Thursday")):
             with self.subTest(cells):
-                self.refused(plan("solve", self.file("p.csv", f"{HEADS}job,2,{cells}\n"), *MONDAY), 2, "p.csv: row 2, column",
+                self.refused(plan("solve", self.file("p.csv", f"{HEADS}job,2,{cells}\n"), *MONDAY), 2,
+                             "p.csv: row 2, column",
                              told)
         table = self.file("p.csv", f"{HEADS}job,2,,,2026-03-05,\n")
         self.refused(plan("solve", table), 2, "row 2, column E (not before): '2026-03-05': a date needs --from")
@@ -137,7 +141,8 @@ class Lengths(InFolder):
         longer, new = self.file("longer.csv", text.replace("4 h", "5 h")), self.folder / "new.csv"
         plan("solve", longer, "--out", new)
         self.assertEqual(plan("compare", longer, answer, new).stdout.splitlines()[:2], [
-            "makespan 32 h -> 33 h, 1 h later (2026-03-05 17:00 -> 2026-03-06 09:00)", "lateness 8 h -> 9 h, 1 h later"])
+            "makespan 32 h -> 33 h, 1 h later (2026-03-05 17:00 -> 2026-03-06 09:00)",
+            "lateness 8 h -> 9 h, 1 h later"])
 
         days = self.file("d.csv", 'activity,days\nstrip,"2,25"\nmend,"0,5"\n')
         rows = plan("write", days, self.file("b.csv", "name,start\nstrip,0\nmend,0\n")).stdout
@@ -152,15 +157,19 @@ class Lengths(InFolder):
 
     def test_faults(self) -> None:
         half = self.file("p.csv", "activity,days\na,1.5\n")
-        self.refused(plan("solve", half, "--period", "days"), 2, "'1.5 days' is not a whole number of periods, which are days")
+        self.refused(plan("solve", half, "--period", "days"), 2,
+                     "'1.5 days' is not a whole number of periods, which are days")
         for rows, told in (("a,2 moons\n", "'2 moons' is not a number, or one with min, h, d, w or cd"),
                            ("a,2 cd\n", "depends on its date"), ("a,-1 d\n", "-1 d is below 0")):
             with self.subTest(rows):
-                self.refused(plan("solve", self.file("p.csv", f"activity,days\n{rows}")), 2, "row 2, column B (days)", told)
+                self.refused(plan("solve", self.file("p.csv", f"activity,days\n{rows}")), 2, "row 2, column B (days)",
+                             told)
         mixed = self.file("p.csv", "activity,duration\na,2 d\nb,3\n")
-        self.refused(plan("solve", mixed), 2, "row 3, column B (duration): 3 of what? Durations have units; write '2 d'")
+        self.refused(plan("solve", mixed), 2, "row 3, column B (duration): 3 of what? Durations have units; write '2 "
+                     "d'")
         mixed = self.file("p.csv", "activity,duration,not before\na,2 d,3\nb,3 h,\n")
-        self.refused(plan("solve", mixed), 2, "row 2, column C (not before): 3 of what? Durations have units; write '2 d' or")
+        self.refused(plan("solve", mixed), 2, "row 2, column C (not before): 3 of what? Durations have units; write '2 "
+                     "d' or")
         self.refused(plan("solve", mixed, "--status", "3"), 2, "status 3: no whole number of periods; write a date")
         for cell, told in (("1 d", "optimal 24"), ("4 h", "optimal 20"), ("0", "optimal 16"), ("1.5 d", "optimal 28")):
             mixed = self.file("p.csv", f"activity,duration,not before\na,2 d,{cell}\nb,3 h,\n")
@@ -170,7 +179,8 @@ class Lengths(InFolder):
         for cell in ("1 cd", "-1 d", "12.5", "1 moon"):
             mixed = self.file("p.csv", f"activity,duration,not before\na,2 d,{cell}\nb,3 h,\n")
             self.refused(plan("solve", mixed), 2, "row 2, column C (not before): ")
-            self.refused(plan("solve", self.file("q.csv", "activity,days\na,2\n"), "--status", cell), 2, f"status {cell}: ")
+            self.refused(plan("solve", self.file("q.csv", "activity,days\na,2\n"), "--status", cell), 2,
+                         f"status {cell}: ")
 
     def test_numbers_count_what_the_column_counts(self) -> None:
         """By hand: an hour more in a row changes no time of another row: a day is eight hours, from day 2 on, away on
@@ -181,9 +191,11 @@ class Lengths(InFolder):
             table = self.file("p.csv", f"{heads}lift,3,1,2,5,5\nset,2,1,,,\nlate,1,,7,,\n{row}")
             ran = plan("solve", table, "--absences", away, "--status", "1")
             self.assertEqual(ran.stdout.partition("\n")[0], told, ran.stderr)
-            self.assertEqual(plan("solve", table, "--minimize", "lateness").stdout.partition("\n")[0], "optimal lateness 0")
+            self.assertEqual(plan("solve", table, "--minimize", "lateness").stdout.partition("\n")[0],
+                             "optimal lateness 0")
         old = self.file("old.csv", "name,start\nlift,2\nset,0\nlate,7\nlook,0\n")
         told = plan("solve", table, "--start", old, "--frozen", "3").stderr
         self.assertIn("3 of 4 activities start before 3 in", told)
         early = self.file("a.csv", "name,start\nlift,2\nset,0\nlate,5\nlook,0\n")
-        self.assertEqual(plan("check", table, early).stdout, "3 (late) must start at 56 h or later, and starts at 40 h\n")
+        self.assertEqual(plan("check", table, early).stdout,
+                         "3 (late) must start at 56 h or later, and starts at 40 h\n")

@@ -137,8 +137,10 @@ class Hostile(InFolder):
                            (f"{HEADS}\n" + "x\n" * 100_001, "at most 100,000 rows, and this one 100,002"),
                            (f"{HEADS}\n" + "x\n" * 10_001, "at most 10,000 rows, and this one 10,001"),
                            (f"{HEADS}\n" + "x," * 250_000, "at most 250,000 cells, and this one 250,002"),
-                           (f"{HEADS}\n" + "x," * 2_001, "row 2: a table has at most 2,000 columns, and this one 2,002"),
-                           (f"{HEADS}\n" + row.format("a", "b" * 32_768), "row 2, column C: a cell has at most 32,767 signs")):
+                           (f"{HEADS}\n" + "x," * 2_001,
+                            "row 2: a table has at most 2,000 columns, and this one 2,002"),
+                           (f"{HEADS}\n" + row.format("a", "b" * 32_768),
+                            "row 2, column C: a cell has at most 32,767 signs")):
             with self.subTest(told):
                 self.refused(plan("check", self.file("t.csv", text)), 2, told)
         ran = plan("check", self.file("t.csv", f"{HEADS},notes\n" + row.format("a", "b" * 32_767)))
@@ -153,7 +155,8 @@ class Hostile(InFolder):
             "a.xer": (f"{XER}%T\tTASK\n%F" + "\ta" * 1_001 + "\n%E\n", "line 6: a table has at most 1,000 columns"),
             "b.xer": (f"{XER}%T\tTASK\n%F\ta\n" + "%R\t1\n" * 500_001 + "%E\n", "at most 500,000 cells"),
             "c.xer": (XER + "%T\tA\n" * 1_000 + "%E\n", "a file has at most 1,000 tables"),
-            "a.mpp": (b"\xd0\xcf\x11\xe0\xa1\xb1\x1a\xe1", "a file of Microsoft Project (.mpp) or of an old Excel (.xls)")}
+            "a.mpp": (b"\xd0\xcf\x11\xe0\xa1\xb1\x1a\xe1",
+                      "a file of Microsoft Project (.mpp) or of an old Excel (.xls)")}
         for name, (text, told) in texts.items():
             with self.subTest(name):
                 self.refused(plan("check", self.file(name, text)), 2, told)

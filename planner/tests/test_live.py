@@ -37,7 +37,8 @@ class Live(InFolder):
         record = self.folder / "record"
         for then in ("waits", "sticks"):
             with self.subTest(then), mock.patch("psmax.process.ENDING", 1.0):
-                ran = plan("solve", TWO, "--seconds", "0.3", "--record", record, psprove=self.stand_in(tells=TELLS, then=then))
+                ran = plan("solve", TWO, "--seconds", "0.3", "--record", record,
+                           psprove=self.stand_in(tells=TELLS, then=then))
                 self.assertEqual((ran.returncode, ran.stdout, record.exists()), (3, ANSWER, then == "waits"))
                 is_told = "psprove solve did not end in time, and was killed: what it told stands" in ran.stderr
                 self.assertEqual(is_told, then == "sticks", ran.stderr)

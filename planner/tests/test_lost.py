@@ -64,7 +64,8 @@ class Inputs(InFolder):
 
     def test_an_answer_on_standard_input(self) -> None:
         with open(self.folder / "w.st", "rb") as answer:
-            words = [sys.executable, str(PLAN), "write", str(self.folder / "w.sch"), "--out", str(self.folder / "hard.st")]
+            words = [sys.executable, str(PLAN), "write", str(self.folder / "w.sch"), "--out",
+                     str(self.folder / "hard.st")]
             ran = subprocess.run(words, stdin=answer, capture_output=True, text=True, env={**os.environ, **CALLED})
         self.assertEqual((ran.returncode, self.texts()), (2, self.before), ran.stderr)
 
@@ -148,7 +149,7 @@ class Ends(InFolder):
 
     def test_on_the_way_out(self) -> None:
         """What fails since a command was interrupted is no fault of plan."""
-        with mock.patch("psmax.planner.main.parsed", cut_off):
+        with mock.patch("psmax.planner.main.parse_arguments", cut_off):
             ran = plan("solve", TWO_JOBS)
         self.assertEqual((ran.returncode, ran.stderr), (130, "plan: interrupted\n"))
 

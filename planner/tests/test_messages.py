@@ -35,10 +35,12 @@ class OfTables(InFolder):
 
     def test_names_that_can_not_be(self) -> None:
         for name, reason in (("Start", "it stands for the start of the project"), ("end", "the end of the project"),
-                             ("start of work", "'start of' stands before the name"), ("with crane", "'with' stands before"),
+                             ("start of work", "'start of' stands before the name"),
+                             ("with crane", "'with' stands before"),
                              ("3.4.2026", "it is a date"), ("a\x1bb", "a sign that can't be printed")):
             with self.subTest(name):
-                self.told(f"{name},1,,,,\n", f"row 2, column A (activity): '{name.replace(chr(27), '?')}' can't be the name")
+                self.told(f"{name},1,,,,\n", f"row 2, column A (activity): '{name.replace(chr(27), '?')}' can't be the "
+                          "name")
                 self.assertIn(reason, plan("read", self.folder / "t.csv").stderr)
 
     def test_all_faults_at_once(self) -> None:
@@ -49,7 +51,8 @@ class OfTables(InFolder):
                   "row 4, column B (days): a whole number is missing", "row 4, column D (after): no activity 'digg'",
                   "row 5, column F (at most): 'x'", faults=7)
         self.told("a,x,\n", "row 1, column C (crew)", "row 2, column B (days)", faults=2, heads="activity,days,crew\n")
-        self.told("", "row 1, column A (job)", "row 1 has no column for the name", "row 1 has no column for the duration",
+        self.told("", "row 1, column A (job)", "row 1 has no column for the name",
+                  "row 1 has no column for the duration",
                   faults=3, heads="job\n")
         self.told("".join(f"a{i},x,,,,\n" for i in range(100)), "row 2, column B", faults=21)
         self.assertIn("plan: and 80 more\n", plan("read", self.folder / "t.csv").stderr)
@@ -91,7 +94,8 @@ class Why(InFolder):
 
     def test_a_circle_without_a_greatest_lag(self) -> None:
         text = self.told(f"{LAGS}a,5,b,,\nb,3,a,,\n")
-        self.assertIn("  Together they ask for 8 days more than there are.\n  Each waits for the others, so one of", text)
+        self.assertIn("  Together they ask for 8 days more than there are.\n  Each waits for the others, so one of",
+                      text)
 
     def test_ends_as_in_the_table(self) -> None:
         """By hand: the table says 2 after the end of an activity of 5, which is 7 after its start."""

@@ -117,17 +117,23 @@ class Dates(Tables):
 
     def test_numbers_that_may_be_days(self) -> None:
         """In minutes so many are less than ten years; and without a first day of the project nothing is a date."""
-        self.faults("from,2026-04-13\nactivity,minutes,not before\na,2,46132\n", "row 3, column C (not before): 46132 may be "
+        self.faults("from,2026-04-13\nactivity,minutes,not before\na,2,46132\n",
+                    "row 3, column C (not before): 46132 may be "
                     "so many periods after the start, or 2026-04-20")
         self.faults("activity,days,due\na,2,46132\n", "row 2, column C (due): 46132 may be 2026-04-20")
-        self.faults("from,2026-04-13\nactivity,days,due\na,2,9999\n", "row 3, column C (due): 9999 is more periods than ten")
-        self.faults("from,2026-04-13\nactivity,days,due\na,2,70000\n", "row 3, column C (due): '70000' is more than 20 years")
-        self.assertEqual(self.solved("from,2026-04-13\nactivity,minutes,not before\na,2,46132 min\n")[0], "optimal 46134")
+        self.faults("from,2026-04-13\nactivity,days,due\na,2,9999\n",
+                    "row 3, column C (due): 9999 is more periods than ten")
+        self.faults("from,2026-04-13\nactivity,days,due\na,2,70000\n",
+                    "row 3, column C (due): '70000' is more than 20 years")
+        self.assertEqual(self.solved("from,2026-04-13\nactivity,minutes,not before\na,2,46132 min\n")[0],
+                         "optimal 46134")
 
     def test_another_year(self) -> None:
-        for cells, told in ((("20.04.2062", "", ""), "column E (not before): '20.04.2062' is more than 20 years after the"),
+        for cells, told in ((("20.04.2062", "", ""), "column E (not before): '20.04.2062' is more than 20 years after "
+                             "the"),
                             (("", "", "20.04.2062"), "column G (due): '20.04.2062' is more than 20 years after the"),
-                            (("20.04.2002", "", ""), "column E (not before): '20.04.2002' is more than 20 years before the"),
+                            (("20.04.2002", "", ""), "column E (not before): '20.04.2002' is more than 20 years before "
+                             "the"),
                             (("", "10.04.2026", ""), "column F (end by): '10.04.2026' is before the project starts"),
                             (("", "", "10.04.2026"), "column G (due): '10.04.2026' is before the project starts")):
             with self.subTest(cells):
@@ -137,8 +143,10 @@ class Dates(Tables):
 
         table = self.file("p.csv", "activity,days\na,2\n")
         free = self.file("free.txt", "2026-04-06\n2062-04-07\n")
-        self.refused(plan("solve", table, "--from", "2026-04-13", "--holidays", free), 2, "free.txt: line 2: '2062-04-07'")
-        self.refused(plan("solve", table, "--from", "2026-04-13", "--status", 46132), 2, "status 46132: a spreadsheet counts "
+        self.refused(plan("solve", table, "--from", "2026-04-13", "--holidays", free), 2,
+                     "free.txt: line 2: '2062-04-07'")
+        self.refused(plan("solve", table, "--from", "2026-04-13", "--status", 46132), 2,
+                     "status 46132: a spreadsheet counts "
                      "2026-04-20 so; write that date")
 
     def test_started_after_finished(self) -> None:
@@ -165,7 +173,8 @@ class Above(Tables):
         """However a setting is spelled and parted from its value, there is no work on Sundays and holidays."""
         self.file("free.txt", "2026-04-13\n")
         for above, end in (
-            ("from;10.04.2026\nworkdays,mon-fri\n", "2026-04-13"), ("from;10.04.2026\nworkdays: mon-fri\n", "2026-04-13"),
+            ("from;10.04.2026\nworkdays,mon-fri\n", "2026-04-13"),
+            ("from;10.04.2026\nworkdays: mon-fri\n", "2026-04-13"),
             ("from,10.04.2026\nworkdays=Mo-Fr;;\n", "2026-04-13"),
             (";;\n;from;10.04.2026\n;Arbeitstage:;Mo-Fr;\n", "2026-04-13"),
             ("Start date;10.04.2026\nworking days;mon-fri\n", "2026-04-13"),
@@ -197,9 +206,11 @@ class Above(Tables):
                           ("holidays,gone.txt", "gone.txt: there is no such file"),
                           ("status,2026-02-30", "status 2026-02-30: there is no such date"),
                           ("shift,7-16", "shift 7-16: not hours"), ("zone,Mars", "zone Mars: no time zone"),
-                          ("period,years", "period years: not one of"), ("title,a\ntitle,b", "a second row for 'title'"),
+                          ("period,years", "period years: not one of"),
+                          ("title,a\ntitle,b", "a second row for 'title'"),
                           ("status,46132", "status 46132: a spreadsheet counts 2026-04-20 so"),
-                          ("period,3 hours\nshift,08:00-12:00", "shift 08:00-12:00: a part of 240 minutes has no whole")):
+                          ("period,3 hours\nshift,08:00-12:00",
+                           "shift 08:00-12:00: a part of 240 minutes has no whole")):
             with self.subTest(row):
                 table = f"from,2026-04-10\n{row}\n\nactivity,days\ndig,2\n"
                 self.faults(table, f"p.csv: row {2 + row.count(chr(10))}", told)
@@ -209,9 +220,11 @@ class Above(Tables):
     def test_german_columns(self) -> None:
         table = "from;10.04.2026\nworkdays;Mo-Fr\n\nNr.;Vorgang;Dauer;Vorgänger;Bemerkung\n1;dig;2 Tage;;\n"
         self.assertEqual(self.end(table), "2026-04-13")
-        self.faults(table.replace("Vorgang;Dauer", "Vorgangs;Dauer"), "row 4, column B (Vorgangs): not a column that plan",
+        self.faults(table.replace("Vorgang;Dauer", "Vorgangs;Dauer"),
+                    "row 4, column B (Vorgangs): not a column that plan",
                     "row 4 has no column for the name", faults=2)
-        self.faults(table.replace("Vorgang;Dauer;Vorgänger", "Was;Wie lange;Wonach"), "row 4 has no column for the name",
+        self.faults(table.replace("Vorgang;Dauer;Vorgänger", "Was;Wie lange;Wonach"),
+                    "row 4 has no column for the name",
                     faults=5)
 
 
@@ -244,14 +257,16 @@ class Decimals(Tables):
                 table = f"activity;duration;after\nheat;{one};\ncool;{other};heat\n"
                 self.assertEqual(self.solved(table)[0], "optimal 1012")
         table = "ID;Vorgang;Dauer;Vorgänger\n1;heat;1.000.000 min;\n2;cool;1,5 min;1EA+1.000 min\n"
-        self.assertEqual(self.solved(table.replace("1.000.000", "10.000").replace("1,5 min", "1,0 min"))[0], "optimal 11001")
+        self.assertEqual(self.solved(table.replace("1.000.000", "10.000").replace("1,5 min", "1,0 min"))[0],
+                         "optimal 11001")
 
     def test_what_may_be_both(self) -> None:
         table = "activity;duration;after;at least\nheat;{};;\ncool;{};heat;{}\n"
         for cells, *told in (
             (("1.000 h", "8 h", ""), "row 2, column B (duration): '1.000 h' may be 1000, or 1; write that"),
             (("1,250 d", "8 h", ""), "row 2, column B (duration): '1,250 d' may be 1250, or 1,25; write that"),
-            (("1,5 d", "1.5 d", ""), "row 3, column B (duration): '1.5 d' has not the decimal comma that row 2 has in '1,5 d'"),
+            (("1,5 d", "1.5 d", ""), "row 3, column B (duration): '1.5 d' has not the decimal comma that row 2 has in "
+             "'1,5 d'"),
             (("1.5 d", "8 h", "0,5 d"), "row 3, column D (at least): '0,5 d' has not the decimal point that row 2 has"),
             (("1,5 d", "1.0000 h", ""), "'1.0000 h' has not the decimal comma"),
             (("1,5 d", "1.00.000 h", ""), "'1.00.000 h' has not the decimal comma"),
@@ -283,11 +298,13 @@ class Cells(Tables):
     def test_codes_that_became_dates(self) -> None:
         """The code is blamed, and not the duration that a group does not have."""
         table = "wbs;activity;days\n{};Kolonne;\n{};ausbauen;2\n{};einbauen;2\n"
-        for codes, told in ((("1", "01. Jan", "1.2"), "row 3, column A (wbs): '01. Jan' is no code such as 1.2, but the date"),
+        for codes, told in ((("1", "01. Jan", "1.2"), "row 3, column A (wbs): '01. Jan' is no code such as 1.2, but "
+                             "the date"),
                             (("1", "1.1", "2-Jan"), "row 4, column A (wbs): '2-Jan' is no code"),
                             (("1", "2026-01-01", "1.2"), "row 3, column A (wbs): '2026-01-01' is no code"),
                             (("1", "01.01.2026", "1.2"), "row 3, column A (wbs): '01.01.2026' is no code"),
-                            (("1", "1,1", "1.2"), "row 3, column A (wbs): '1,1' is no code such as 1.2, which has points")):
+                            (("1", "1,1", "1.2"), "row 3, column A (wbs): '1,1' is no code such as 1.2, which has "
+                             "points")):
             with self.subTest(codes):
                 self.faults(table.format(*codes), told)
         self.faults(table.format("1", "01. Jan", "02. Jan"), "row 3", "row 4", faults=2)
@@ -312,14 +329,16 @@ class Cells(Tables):
         """As Excel writes CSV and its text in Unicode; a text in a code page is told."""
         text = "activity\tdays\tafter\nGerüst stellen\t2\t\nheben – „hoch“\t3\tGerüst stellen\n"
         starts = "name,start\nGerüst stellen,0\nheben – „hoch“,2\n"
-        for encoding, told in (("utf-16", ""), ("utf-8-sig", ""), ("cp1252", "p.csv is no UTF-8, and is read in code page")):
+        for encoding, told in (("utf-16", ""), ("utf-8-sig", ""),
+                               ("cp1252", "p.csv is no UTF-8, and is read in code page")):
             with self.subTest(encoding):
                 path = self.file("p.csv", text.encode(encoding))
                 ran = plan("write", path, self.file("a.csv", starts.encode(encoding)))
                 self.assertEqual((ran.returncode, "2,heben – „hoch“,2,3,5" in ran.stdout), (0, True), ran.stderr)
                 self.assertIn(told, plan("solve", path).stderr)
         self.refused(plan("solve", self.file("p.csv", b"activity,days\na\x81,1\n")), 2, "p.csv: line 2 is not UTF-8")
-        for text, told in (("Projekt: Umbau\n", "no table of activities, and no text of a project that plan knows, which is"),
+        for text, told in (("Projekt: Umbau\n", "no table of activities, and no text of a project that plan knows, "
+                            "which is"),
                            ("", "no table of activities")):
             self.refused(plan("solve", self.file("p.txt", text)), 2, told)
 

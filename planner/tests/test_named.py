@@ -83,7 +83,8 @@ class Named(InFolder):
         """Another count of activities is told, and so is an answer that is older than the project."""
         given = self.file("plain", psmax("solve", given=self.project.read_bytes()))
         self.read(INSERTED)
-        self.refused(plan("write", self.project, given), 2, "starts of 5 activities, and", "has 6 with its start and end")
+        self.refused(plan("write", self.project, given), 2, "starts of 5 activities, and",
+                     "has 6 with its start and end")
         table = self.file("plain.csv", "activity,name,start,end\n1,,0,3\n2,,3,7\n3,,7,9\n")
         self.refused(plan("write", self.project, table), 2, "starts of 3 activities, and", "has 4; without names")
         self.read(TABLE.partition("close")[0])
@@ -104,7 +105,8 @@ class Named(InFolder):
         for text, fault in (("activity,name,start\n1,strip,x\n",
                              "row 2, column C (start): 'x' is neither a whole number nor a date"),
                             ("activity,name,start\n1,strip,0\n1,mend,3\n", "row 3: a second start of activity 1"),
-                            ("activity,start\nstrip,\n", "row 2, column B (start): a whole number or a date is missing"),
+                            ("activity,start\nstrip,\n",
+                             "row 2, column B (start): a whole number or a date is missing"),
                             ('optimal 9 {"names": 3}\n0 0\n', "line 1: what it says of the activities can't be read")):
             with self.subTest(text):
                 self.refused(plan("check", self.project, self.file("bad", text)), 2, fault)

@@ -11,8 +11,10 @@ from psmax.planner.table import read_table
 
 from .helpers import InFolder
 
-ODD = ["", " ", "\u00a0", "-", "\u2014", "?", "x", "n/a", "NA", "null", "TRUE", "WAHR", "#REF!", "#N/A", "=A1+1", "0", "-1",
-       "+3", "1e3", "1.000", "1,000", "1.5", "1,5", "1.000,5", "\u00bd", "\uff13", "\u0663", "3d", "3 Tage", "3 h", "2 w",
+ODD = ["", " ", "\u00a0", "-", "\u2014", "?", "x", "n/a", "NA", "null", "TRUE", "WAHR", "#REF!", "#N/A", "=A1+1", "0",
+       "-1",
+       "+3", "1e3", "1.000", "1,000", "1.5", "1,5", "1.000,5", "\u00bd", "\uff13", "\u0663", "3d", "3 Tage", "3 h",
+       "2 w",
        "46132", "2062-04-20", "31.02.2026", "20.04.2026", "2026-04-21 10:00", "01. Jan", "14:00", "3;4", "a\nb"]
 GERMAN = """title;Umbau
 from;13.04.2026
@@ -42,7 +44,8 @@ def cells(text: str, separator: str) -> list[list[str]]:
 
 
 def written(rows: list[list[str]], separator: str) -> str:
-    return "".join(separator.join(f'"{one}"' if re.search(r'[,;"\n]', one) else one for one in row) + "\n" for row in rows)
+    return "".join(separator.join(f'"{one}"' if re.search(r'[,;"\n]', one) else one for one in row) + "\n"
+                   for row in rows)
 
 
 def variants(text: str, separator: str) -> Iterator[tuple[int, str, str, str]]:

@@ -3,7 +3,7 @@ import json
 import subprocess
 import unittest
 import zlib
-from typing import Any
+from typing import IO, Any
 from unittest import mock
 
 from psmax.cubes import cube, part
@@ -24,7 +24,8 @@ class InParts(InCubes):
 
     def verify(self, script: str, *words: object) -> Ran:
         """With a stand-in of which a part runs this script first; $3 is K/N."""
-        program = self.program("in-parts", f"cd {self.folder}\ncase $2 in --part) {script}\n;; esac\nexec {self.psprove()} $*")
+        program = self.program("in-parts", f"cd {self.folder}\ncase $2 in --part) {script}\n;; esac\nexec "
+                               f"{self.psprove()} $*")
         return plan("verify", self.project, self.record, *words, psprove=program)
 
     def test_all_are_right(self) -> None:
@@ -32,7 +33,8 @@ class InParts(InCubes):
         self.assertEqual(ran.returncode, 0, ran.stderr)
         self.assertEqual(ran.stdout.splitlines(), [
             f"{self.record} proves that no schedule of {self.project} is shorter than 9, and has one that long.",
-            "`psprove verify`, which is proved itself, has judged it in 3 parts; verify_log.py judges it without psprove."])
+            "`psprove verify`, which is proved itself, has judged it in 3 parts; verify_log.py judges it without "
+            "psprove."])
         self.assertEqual(sorted((self.folder / "asked").read_text().split()), ["1/3", "2/3", "3/3"])
 
     def test_json(self) -> None:
@@ -51,7 +53,8 @@ class InParts(InCubes):
         fault = "echo psprove: event $event >&2; exit 4"
         ran = self.verify(f"case $3 in 1/3) event='7: lemma'; {fault};; 2/3) event='12: lemma'; {fault};; esac\n"
                           "cat > /dev/null; echo part $3 of proved optimal 9; exit 0", "--jobs", "3")
-        self.assertEqual((ran.returncode, ran.stdout.partition(": ")[2]), (4, "its step 7 is wrong (lemma)\n"), ran.stderr)
+        self.assertEqual((ran.returncode, ran.stdout.partition(": ")[2]), (4, "its step 7 is wrong (lemma)\n"),
+                         ran.stderr)
 
     def test_a_check_that_dies(self) -> None:
         """Once: the part is checked again. Each time: it is named."""
@@ -72,9 +75,10 @@ class InParts(InCubes):
             return 0
 
         with mock.patch("psmax.cubes.machines.Processes.threads", threads):
-            ran = self.verify("cat > /dev/null\ncase $3 in 1/2) touch gone; echo part $3 of proved optimal 9; exit 0;; esac\n"
-                              "sleep 1; echo psprove: event 7: lemma >&2; exit 4", "--jobs", "2")
-        self.assertEqual((ran.returncode, ran.stdout.partition(": ")[2]), (4, "its step 7 is wrong (lemma)\n"), ran.stderr)
+            ran = self.verify("cat > /dev/null\ncase $3 in 1/2) touch gone; echo part $3 of proved optimal 9; exit 0;; "
+                              "esac\nsleep 1; echo psprove: event 7: lemma >&2; exit 4", "--jobs", "2")
+        self.assertEqual((ran.returncode, ran.stdout.partition(": ")[2]), (4, "its step 7 is wrong (lemma)\n"),
+                         ran.stderr)
         self.assertIn("the cluster has no worker yet\n", ran.stderr)
 
     def test_odd_answers(self) -> None:
@@ -92,7 +96,11 @@ class InParts(InCubes):
     def test_a_machine_that_has_no_such_file(self) -> None:
         """It gets the record with the task."""
         real = part.open_record
-        with mock.patch.object(part, "record_of", lambda task: real(task if "record" in task else {"path": "/no/file"})):
+
+        def unseen(task: cube.Row) -> IO[bytes]:
+            return real(task if "record" in task else {"path": "/no/file"})
+
+        with mock.patch.object(part, "open_record", unseen):
             self.assertEqual(self.verify(":", "--jobs", "2").returncode, 0)
 
     def test_a_record_that_changes(self) -> None:
@@ -100,13 +108,15 @@ class InParts(InCubes):
             self.refused(self.verify(":", "--jobs", "2"), 1, f"plan: {self.record} was changed while it was checked\n")
 
     def test_nobody_waits(self) -> None:
-        task = {"path": f"{self.record}", "project": zlib.compress(b""), "number": 1, "count": 2, "program": self.psprove()}
+        task = {"path": f"{self.record}", "project": zlib.compress(b""), "number": 1, "count": 2,
+                "program": self.psprove()}
         with self.assertRaisesRegex(RuntimeError, "nobody waits"):
             part.check_part(task, lambda: None, cube.GLANCE)
 
     def test_words(self) -> None:
         """A folder of cubes has a record, and alone its project too. A record of psmax has no parts."""
-        self.refused(plan("verify", self.project), 2, f"{self.project} is no folder of cubes; name a record behind the project")
+        self.refused(plan("verify", self.project), 2, f"{self.project} is no folder of cubes; name a record behind the "
+                     "project")
         self.refused(plan("verify", self.project, self.folder / "none", "--jobs", "2"), 1, "cannot read ")
         self.solved()
         for words in ([self.out], [self.project, self.out]):
@@ -133,13 +143,14 @@ class Believed(InCubes):
         program = self.program("liar", f"case $2 in --part) {liar}\n;; esac\nexec {self.psprove()} $*")
         with (mock.patch("psmax.planner.verify.Cluster", lambda address, work: Others(count, program, work)),
               mock.patch("psmax.cubes.parts.OWN", own)):
-            return plan("verify", self.project, self.file("four.log", record), "--cluster", "tcp://x", psprove=self.psprove())
+            return plan("verify", self.project, self.file("four.log", record), "--cluster", "tcp://x",
+                        psprove=self.psprove())
 
     def test_who_is_believed(self) -> None:
         ran = self.verify(":", own=2)
         self.assertEqual(ran.returncode, 0, ran.stderr)
-        self.assertIn("has judged 2 parts, drawn at random of 4, on this machine. The others are believed of the workers that "
-                      "judged them: tcp://10.0.0.7:1 (2).", ran.stdout)
+        self.assertIn("has judged 2 parts, drawn at random of 4, on this machine. The others are believed of the "
+                      "workers that judged them: tcp://10.0.0.7:1 (2).", ran.stdout)
         ran = self.verify(":", own=4)
         self.assertIn("has judged it in 4 parts; verify_log.py", ran.stdout)
 
@@ -150,7 +161,8 @@ class Believed(InCubes):
         for record in bad:
             ran = self.verify(proves.format("optimal 1"), record)
             self.assertEqual((ran.returncode, "proves nothing of" in ran.stdout), (4, True), ran.stderr)
-        self.refused(self.verify(proves.format("optimal 1")), 1, "tcp://10.0.0.7:1 says `part ", "psprove here says `part ")
+        self.refused(self.verify(proves.format("optimal 1")), 1, "tcp://10.0.0.7:1 says `part ",
+                     "psprove here says `part ")
         ran = self.verify(proves.format("optimal 1"), own=0)
         self.refused(ran, 1, "contradict each other: proved optimal 1, proved optimal 9")
         wrong = OPTIMAL_9.replace(b"\x12", b"\x10")
@@ -159,11 +171,13 @@ class Believed(InCubes):
     def test_a_fault_that_is_none(self) -> None:
         """A fault is looked at here before it is told."""
         ran = self.verify("case $3 in 3/4) cat > /dev/null; echo psprove: event 1: lemma >&2; exit 4;; esac", own=0)
-        self.refused(ran, 1, "part 3/4: tcp://10.0.0.7:1 says `event 1: lemma`, and psprove here says `part 3/4 of proved ")
+        self.refused(ran, 1, "part 3/4: tcp://10.0.0.7:1 says `event 1: lemma`, and psprove here says `part 3/4 of "
+                     "proved ")
 
     def test_a_fault(self) -> None:
         ran = self.verify(":", OPTIMAL_9.replace(b"\x12", b"\x10"), own=0)
-        self.assertEqual((ran.returncode, ran.stdout.partition(": ")[2]), (4, "its step 1 is wrong (claim)\n"), ran.stderr)
+        self.assertEqual((ran.returncode, ran.stdout.partition(": ")[2]), (4, "its step 1 is wrong (claim)\n"),
+                         ran.stderr)
 
     def test_odd_answers(self) -> None:
         """Of no known form, or always of other bytes: named, and not for ever."""
@@ -210,4 +224,5 @@ class ByPsprove(InCubes):
         for project, bytes_of_it in ((LOTS, data), (LOTS, data[: len(data) // 2]), (self.project, data)):
             record.write_bytes(bytes_of_it)
             whole, parts = (plan("verify", project, record, "--jobs", jobs) for jobs in (1, 3))
-            self.assertEqual((whole.returncode, whole.stdout.splitlines()[0]), (parts.returncode, parts.stdout.splitlines()[0]))
+            self.assertEqual((whole.returncode, whole.stdout.splitlines()[0]),
+                             (parts.returncode, parts.stdout.splitlines()[0]))

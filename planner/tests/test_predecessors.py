@@ -44,7 +44,8 @@ class Predecessors(InFolder):
     def test_faults(self) -> None:
         for cell, told in (("13", "'13': no activity 13"), ("20", "can't come after itself"),
                            ("12FS+50 %%", "'+50 %%' is not a number"), ("9FS+33%", "write the lag as a length"),
-                           ("12FS+2 d<1 d", "at most 1 days is less than at least 2 days"), ("12FS<", "'' is not a number"),
+                           ("12FS+2 d<1 d", "at most 1 days is less than at least 2 days"),
+                           ("12FS<", "'' is not a number"),
                            ("12XX", "no activity 12XX"),
                            ("12FS+1,5", "the comma may stand in a number or between two predecessors"),
                            ("dig", "'dig': no activity dig"), ("12FF+1 cd", "calendar days are for lags to a start")):
@@ -61,8 +62,10 @@ class Predecessors(InFolder):
         is 1."""
         for cell, wanted in (("12FS<3 d", {(1, 5, 5), (5, 1, -8)}), ("12FS+1 d<=3 d", {(1, 5, 6), (5, 1, -8)}),
                              ("12SS+1<3", {(1, 5, 1), (5, 1, -3)}), ("12EE \u2264 2 Tage", {(1, 5, 1), (5, 1, -3)}),
-                             ("12FS-2 d<0", {(1, 5, 3), (5, 1, -5)}), ("12SS+40%", {(1, 5, 2)}), ("12FS-20 %", {(1, 5, 4)}),
-                             ("14FS+50%<100%", {(2, 5, 3), (5, 2, -4)}), ("14FS<3; 3SS", {(2, 5, 2), (5, 2, -5), (4, 5, 0)})):
+                             ("12FS-2 d<0", {(1, 5, 3), (5, 1, -5)}), ("12SS+40%", {(1, 5, 2)}),
+                             ("12FS-20 %", {(1, 5, 4)}),
+                             ("14FS+50%<100%", {(2, 5, 3), (5, 2, -4)}),
+                             ("14FS<3; 3SS", {(2, 5, 2), (5, 2, -5), (4, 5, 0)})):
             with self.subTest(cell):
                 path = self.file("p.csv", f'{HEADS}{OTHERS}20,pour,4 d,"{cell}"\n')
                 self.assertEqual({*open_project(str(path)).project.arcs}, wanted)
@@ -111,7 +114,8 @@ WBS;ID;Task Name;Duration;Predecessors
     def test_other_ways_to_say_it(self) -> None:
         wanted = plan("read", self.file("p.csv", self.TABLE)).stdout.partition(":")[2].partition(";")[0]
         levels = "level,activity,days,after\n1,Earthworks,,\n2,Dig,3,\n2,Drain,2,Dig\n1,Frame,,\n2,Columns,4,Drain\n"
-        summary = "activity,days,after,summary\nEarthworks,,,yes\nDig,3,,\nDrain,2,Dig,no\nFrame,,,x\nColumns,4,Drain,\n"
+        summary = ("activity,days,after,summary\nEarthworks,,,yes\nDig,3,,\nDrain,2,Dig,no\n"
+                   "Frame,,,x\nColumns,4,Drain,\n")
         for text in (levels, summary):
             ran = plan("read", self.file("q.csv", text))
             self.assertEqual(ran.stdout.partition(":")[2].partition(";")[0], wanted, ran.stderr)
@@ -149,10 +153,13 @@ WBS;ID;Task Name;Duration;Predecessors
     def test_lags_that_a_group_can_not_have(self) -> None:
         """Whether the first or the last of its activities keeps them is not known before they are planned."""
         first, last = "a group starts with the first of its activities", "a group ends with the last of its activities"
-        for cells, told in (({"row": "c", "predecessors": "1SS"}, first), ({"row": "c", "predecessors": "1SF+1 d"}, first),
+        for cells, told in (({"row": "c", "predecessors": "1SS"}, first),
+                            ({"row": "c", "predecessors": "1SF+1 d"}, first),
                             ({"row": "c", "predecessors": "1FS<3 d"}, last), ({"row": "c", "after": "with G"}, first),
-                            ({"row": "H", "predecessors": "2FF"}, last), ({"row": "H", "predecessors": "2FS<2 d"}, first),
-                            ({"row": "a", "predecessors": "1"}, "a group and an activity of it can't come one after the other"),
+                            ({"row": "H", "predecessors": "2FF"}, last),
+                            ({"row": "H", "predecessors": "2FS<2 d"}, first),
+                            ({"row": "a", "predecessors": "1"},
+                             "a group and an activity of it can't come one after the other"),
                             ({"row": "G", "after": "b"}, "a group and an activity of it"),
                             ({"row": "c", "predecessors": "1FS+50%"}, "a group has no duration of which")):
             with self.subTest(cells), self.assertRaisesRegex(BadInput, told):
@@ -160,7 +167,8 @@ WBS;ID;Task Name;Duration;Predecessors
 
     def test_dates_of_a_group(self) -> None:
         table = self.TABLE.replace("Duration;", "Duration;due;").replace("9 d;", "9 d;12;")
-        self.refused(plan("solve", self.file("p.csv", table)), 2, "row 4, column E (due): a group has no dates or demands")
+        self.refused(plan("solve", self.file("p.csv", table)), 2,
+                     "row 4, column E (due): a group has no dates or demands")
 
 
 class Names(InFolder):
@@ -173,11 +181,13 @@ class Names(InFolder):
             with self.subTest(after):
                 table = self.file("p.csv", f"{self.HEADS}Excavate,1,\nb,1,{after}\n")
                 self.refused(plan("solve", table), 2, "p.csv: row 3, column C (after): ", told)
-        self.assertNotIn("did you mean", plan("solve", self.file("p.csv", f"{self.HEADS}Excavate,1,\nb,1,paint\n")).stderr)
+        far = self.file("p.csv", f"{self.HEADS}Excavate,1,\nb,1,paint\n")
+        self.assertNotIn("did you mean", plan("solve", far).stderr)
 
     def test_a_semicolon_in_a_name(self) -> None:
         """By hand: 2 and 3 one after the other, then 1: 6."""
-        table = self.file("p.csv", self.HEADS + '"wash; rinse",2,\ndry,3,"""wash; rinse"""\npack,1,"""wash; rinse""; dry"\n')
+        table = self.file("p.csv", self.HEADS + '"wash; rinse",2,\ndry,3,"""wash; rinse"""\npack,1,"""wash; rinse""; '
+                          'dry"\n')
         answer = self.folder / "a.csv"
         self.assertEqual(plan("solve", table, "--out", answer).stdout, "optimal 6\n")
         self.assertIn("1,wash; rinse,0,2,2\n", answer.read_text())

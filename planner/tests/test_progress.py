@@ -86,7 +86,8 @@ class Progress(InFolder):
         self.assertEqual([line.endswith("critical") for line in lines[1:]], [False, False, True, True])
         ran = plan("check", *words, self.file("a.csv", "name,start\nlift,0\nbolt,3\nroof,4\ncover,9\n"))
         self.assertEqual((ran.returncode, ran.stdout), (4, "3 (roof) must start at 5 or later, and starts at 4\n"
-                                                           "3 (roof) must start no sooner than 2 (bolt) ends, and starts 2 "
+                                                           "3 (roof) must start no sooner than 2 (bolt) ends, and "
+                                                        "starts 2 "
                                                            "before it "
                                                            "does\n"))
 
@@ -95,7 +96,8 @@ class Progress(InFolder):
                                      "row 3, column E (started): '7' is behind the status date"),
                                     ((0, 0, 1, "", "", "", "", ""), 6,
                                      "row 3, column E (started): it has started, and would have"),
-                                    ((0, 0, "", 1, "", "", "", ""), 6, "row 3, column F (remaining): what has no start")):
+                                    ((0, 0, "", 1, "", "", "", ""), 6,
+                                     "row 3, column F (remaining): what has no start")):
             with self.subTest(told):
                 table = self.file("p.csv", TABLE.format(*cells))
                 self.refused(plan("solve", table, "--status", status), 2, told)

@@ -45,7 +45,8 @@ class Replanning(InFolder):
         ran = self.replanned(4)
         self.assertEqual((ran.returncode, ran.stdout), (0, "optimal 13\n"), ran.stderr)
         self.assertIn("2 of 4 activities start before 4 in", ran.stderr)
-        self.assertIn("old.csv: 3 (lift roof) must start no sooner than 2 (bolt beams) ends, and starts 2 before it does",
+        self.assertIn("old.csv: 3 (lift roof) must start no sooner than 2 (bolt beams) ends, and starts 2 before it "
+                      "does",
                       ran.stderr)
         self.assertIn("old.csv, repaired", ran.stderr)
         self.assertEqual(self.starts(self.new), {"lift beams": 0, "bolt beams": 3, "lift roof": 7, "cover roof": 11})
@@ -54,10 +55,12 @@ class Replanning(InFolder):
         """By hand: without anything changed, on day 6 the cover may start on day 9, and nothing else moves; had the
         roof not started by then, it could not start before."""
         ran = self.replanned(6)
-        self.assertEqual((ran.returncode, ran.stdout, self.starts(self.new)), (0, "optimal 11\n", self.starts(self.old)))
+        self.assertEqual((ran.returncode, ran.stdout, self.starts(self.new)),
+                         (0, "optimal 11\n", self.starts(self.old)))
         late = self.late()
         ran = plan("solve", self.project, "--start", late, "--frozen", 7, "--out", self.folder / "again.csv")
-        self.assertEqual((ran.stdout, self.starts(self.folder / "again.csv")["lift roof"]), ("optimal 13\n", 7), ran.stderr)
+        self.assertEqual((ran.stdout, self.starts(self.folder / "again.csv")["lift roof"]), ("optimal 13\n", 7),
+                         ran.stderr)
 
     def test_new_and_gone(self) -> None:
         """By hand: the beams are tested for a day on the crane, once they are bolted on day 5."""
@@ -85,7 +88,8 @@ class Replanning(InFolder):
         """What has started can't be moved, so what no longer fits there is told by name."""
         self.read(TABLE.replace("lift beams,,0", "lift beams,1,2"))
         self.refused(self.replanned(4), 2,
-                     "has started, but 2 (bolt beams) must start at least 1 after 1 (lift beams) ends, and starts 0 after")
+                     "has started, but 2 (bolt beams) must start at least 1 after 1 (lift beams) ends, and starts 0 "
+                     "after")
         self.read(TABLE.replace("bolt beams,2,", "bolt beams,2,1").replace("lift beams,3", "lift beams,5"))
         self.refused(self.replanned(4), 2, "2 (bolt beams) must start no sooner than 1 (lift beams) ends",
                      "2 units of crane are in use", faults=2)
@@ -131,7 +135,8 @@ class Comparing(InFolder):
 """
 
     def compared(self, old: str, new: str, *words: object) -> Ran:
-        return plan("compare", self.file("p.csv", self.TABLE), self.file("old.csv", old), self.file("new.csv", new), *words)
+        return plan("compare", self.file("p.csv", self.TABLE), self.file("old.csv", old), self.file("new.csv", new),
+                    *words)
 
     def test_by_hand(self) -> None:
         ran = self.compared(self.OLD, self.NEW)
@@ -142,7 +147,8 @@ class Comparing(InFolder):
         new = self.NEW.replace("start\n", "start,end\n").replace("cure,5", "cure,5,7").replace("dig,0", "dig,0,99")
         old = self.OLD.replace("takes\n", "takes,end\n").replace("9,1\n", "9,1,12\n")
         self.assertEqual(self.compared(old, new).stdout, self.TOLD)
-        self.refused(self.compared(self.OLD.replace("takes", "end"), self.NEW), 2, "old.csv: 4 (strip) is no activity of",
+        self.refused(self.compared(self.OLD.replace("takes", "end"), self.NEW), 2,
+                     "old.csv: 4 (strip) is no activity of",
                      "no column 'takes' says how long it took")
 
     def test_dates(self) -> None:

@@ -63,7 +63,8 @@ class Report(InFolder):
         short, wrong = self.file("short", "0 0\n1 0\n2 3\n3 7\n"), self.file("wrong", b"record 3\n\x02\x07\x10")
         self.refused(plan("report", path, short, "--record", wrong, "--out", out), 2, "proves nothing of",
                      "its step 1 is wrong (claim)")
-        self.refused(plan("report", path, short, "--record", wrong, "--out", wrong), 2, "is the record, which would be lost")
+        self.refused(plan("report", path, short, "--record", wrong, "--out", wrong), 2,
+                     "is the record, which would be lost")
         self.refused(plan("report", path, short, "--out", short), 2, "is the answer, which would be lost")
         self.refused(plan("report", path, self.file("bad", "0 0\n1 0\n2 2\n3 6\n"), "--out", out), 2, "not a schedule")
         self.refused(plan("report", path, short), 2, "--out")
@@ -105,7 +106,8 @@ class Report(InFolder):
         resources."""
         answer = self.file("best", psmax("solve", given=(EXAMPLES / "building-site.sch").read_bytes()))
         page = self.page(EXAMPLES / "building-site.sch", answer)
-        self.assertEqual((page.count('<tr class="line"'), page.count('<tr class="activity"'), page.count('class="load"')),
+        self.assertEqual((page.count('<tr class="line"'), page.count('<tr class="activity"'),
+                          page.count('class="load"')),
                          (13, 13, 3))
         named = plan("float", EXAMPLES / "building-site.sch", answer, "--total").stdout
         self.assertEqual(page.count('data-key="0">critical'), named.count("critical"))

@@ -14,7 +14,8 @@ from typing import Any
 
 from psmax import __version__
 
-from .helpers import CALLED, EXAMPLES, INPUTS, PLAN, PROJECTS, PSPROVE, TOP, TWO_JOBS, InFolder, begun, plan, psmax, started
+from .helpers import (CALLED, EXAMPLES, INPUTS, PLAN, PROJECTS, PSPROVE, TOP, TWO_JOBS, InFolder, begun, plan, psmax,
+                      started)
 
 HEADS = "project,activities,status,makespan,ends,bound,seconds,conflicts,limit,plan,psprove,fault\n"
 
@@ -29,7 +30,8 @@ class Json(InFolder):
 
     def test_by_hand(self) -> None:
         told = self.told(INPUTS / "two-jobs.sch")
-        self.assertEqual([*told], ["bound", "makespan", "starts", "ends", "status", "names", "durations", "period", "conflicts",
+        self.assertEqual([*told], ["bound", "makespan", "starts", "ends", "status", "names", "durations", "period",
+                                   "conflicts",
                                    "seconds", "versions"])
         self.assertEqual([told[key] for key in ("bound", "makespan", "status", "durations")], [7, 7, "optimal", [3, 4]])
         self.assertGreater(told["seconds"], 0)
@@ -38,7 +40,8 @@ class Json(InFolder):
 
     def test_other_answers(self) -> None:
         told = self.told(INPUTS / "two-jobs-close-lags.sch")
-        self.assertEqual([told[key] for key in ("bound", "makespan", "starts", "status")], [None, None, None, "no schedule"])
+        self.assertEqual([told[key] for key in ("bound", "makespan", "starts", "status")],
+                         [None, None, None, "no schedule"])
         slow = self.program("slow", f'exec {PSPROVE} "$@" --conflicts 0')
         told = self.told(self.hard(), "--seconds", "1", "--jobs", "1", psprove=slow)
         self.assertEqual([told[key] for key in ("makespan", "starts", "status")], [None, None, "unknown"])
@@ -72,7 +75,8 @@ class Batch(InFolder):
         self.assertEqual((ran.returncode, ran.stdout), (0, ""), ran.stderr)
         found = {name: (row["status"], row["makespan"], row["activities"]) for name, row in self.rows().items()}
         self.assertEqual(found, {"UPPER.SCH": ("optimal", "7", "2"), "two-jobs.sch": ("optimal", "7", "2"),
-                                 "three-jobs-lags.sch": ("optimal", "5", "3"), "empty-project.sch": ("optimal", "0", "0"),
+                                 "three-jobs-lags.sch": ("optimal", "5", "3"),
+                                 "empty-project.sch": ("optimal", "0", "0"),
                                  "two-jobs-close-lags.sch": ("no schedule", "", "2")})
         self.assertIn("5 of 5 projects: 1 no schedule, 4 optimal", ran.stderr)
 
@@ -132,7 +136,8 @@ class Batch(InFolder):
         self.assertEqual(self.csv.read_text(), ran.stdout)
         self.refused(plan("batch", "--join", *parts, "--csv", parts[0]), 2, "which would be lost")
         self.file("all.csv", HEADS + "more.sch,2,feasible,9,,7,1.0,5,1,0,0,\n")
-        self.refused(plan("batch", "--join", *parts, "--csv", self.csv), 2, "all.csv has a row for more.sch, which would be")
+        self.refused(plan("batch", "--join", *parts, "--csv", self.csv), 2,
+                     "all.csv has a row for more.sch, which would be")
         other = self.file("other.csv", parts[0].read_text().replace("optimal,7", "optimal,8"))
         self.refused(plan("batch", "--join", *parts, other), 2, "other.csv: a second row for UPPER.SCH")
 

@@ -116,7 +116,8 @@ class SecondUser(InFolder):
 
     def begin(self, *words: object, psprove: str | None = None) -> subprocess.Popen[str]:
         """A command of the owner's."""
-        return subprocess.Popen([PLAN, *map(str, words)], text=True, env=self.env, cwd=self.folder, stdout=subprocess.PIPE,
+        return subprocess.Popen([PLAN, *map(str, words)], text=True, env=self.env, cwd=self.folder,
+                                stdout=subprocess.PIPE,
                                 stderr=subprocess.PIPE, preexec_fn=lambda: signal.signal(signal.SIGINT, signal.SIG_DFL),
                                 **as_user(OWNER))
 
@@ -179,7 +180,9 @@ class SecondUser(InFolder):
 
     def dask(self, *words: str) -> None:
         page = "--no-dashboard", "--dashboard-address", "127.0.0.1:0"
-        child = subprocess.Popen([self.python, "-m", f"distributed.cli.dask_{words[0]}", *words[1:], *page], env=self.env,
-                                 cwd=self.folder, stdout=subprocess.DEVNULL, stderr=subprocess.DEVNULL, **as_user(OWNER))
+        child = subprocess.Popen([self.python, "-m", f"distributed.cli.dask_{words[0]}", *words[1:], *page],
+                                 env=self.env,
+                                 cwd=self.folder, stdout=subprocess.DEVNULL, stderr=subprocess.DEVNULL,
+                                 **as_user(OWNER))
         self.addCleanup(child.wait)
         self.addCleanup(child.kill)

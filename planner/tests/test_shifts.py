@@ -17,7 +17,8 @@ class Shifts(InFolder):
         """The sixth hour ends at 14:00, two more on Monday and two on Tuesday; 31 from Tuesday 09:00 are 6, 8, 8, 8 and
         the first of the Monday after."""
         self.assertEqual(self.rows(TABLE, *WORDS), [
-            ["0", "6", "6", "2026-03-02 07:00", "2026-03-02 14:00"], ["6", "4", "10", "2026-03-02 14:00", "2026-03-03 09:00"],
+            ["0", "6", "6", "2026-03-02 07:00", "2026-03-02 14:00"],
+            ["6", "4", "10", "2026-03-02 14:00", "2026-03-03 09:00"],
             ["10", "0", "10", "2026-03-03 09:00", "2026-03-03 09:00"],
             ["10", "31", "41", "2026-03-03 09:00", "2026-03-09 08:00"]])
 
@@ -39,7 +40,8 @@ class Shifts(InFolder):
         self.assertIn("row 2: 2026-03-04 10:30 is within a period, and counts as its end\n", told)
         self.assertNotIn("within", plan("solve", self.file("p.csv", f"{heads}a,2,2026-03-04 12:00,2026-03-05\n"),
                                         *WORDS).stderr)
-        for cell, told in (("2026-03-02", "optimal 8"), ("2026-03-02 15:00", "no schedule"), ("2026-03-02 16:00", "optimal 8")):
+        for cell, told in (("2026-03-02", "optimal 8"), ("2026-03-02 15:00", "no schedule"),
+                           ("2026-03-02 16:00", "optimal 8")):
             with self.subTest(cell):
                 ran = plan("solve", self.file("p.csv", f"{heads}a,8,,{cell}\n"), *WORDS)
                 self.assertEqual(ran.stdout.partition("\n")[0], told)
@@ -66,4 +68,5 @@ class Shifts(InFolder):
         far = self.file("far.csv", "activity,minutes,not before\na,6,2040-01-01\n")
         self.refused(plan("solve", far, "--from", "2026-03-02"), 2,
                      "row 2, column C (not before): 2040-01-01 is 7,276,320 periods")
-        self.refused(plan("solve", path, "--from", "2026-03-02", "--workdays", "mon-fri"), 2, "with --shift, the hours of work")
+        self.refused(plan("solve", path, "--from", "2026-03-02", "--workdays", "mon-fri"), 2,
+                     "with --shift, the hours of work")

@@ -5,7 +5,8 @@ import os
 
 from .helpers import InFolder, plan
 
-NAMES = ["=cmd|'/C calc'!A0", "@SUM(1)", "2-3", "1.2", "+1", "May 5", "E-101", "TRUE", "plain words", "1,5", '="x"', "-", "7"]
+NAMES = ["=cmd|'/C calc'!A0", "@SUM(1)", "2-3", "1.2", "+1", "May 5", "E-101", "TRUE", "plain words", "1,5", '="x"',
+         "-", "7"]
 
 
 class Spreadsheets(InFolder):
@@ -61,7 +62,8 @@ class Files(InFolder):
                     ran = plan(*words, there)
                     self.refused(ran, 2, "lost")
         for there in (record, other, page):
-            self.refused(plan("write", table, answer, "--out", there), 2, "no table of these columns, and would be lost")
+            self.refused(plan("write", table, answer, "--out", there), 2,
+                         "no table of these columns, and would be lost")
             self.refused(plan("solve", table, "--out", there), 2, "would be lost", faults=2)
         self.assertEqual({path.name: path.read_bytes() for path in self.folder.iterdir()}, before)
         for _ in range(2):

@@ -110,7 +110,8 @@ class Starts(InFolder):
         starts = self.file("given", "0 0\n1 0\n2 3\n3 7\n")
         for said in ('"bound":8,"makespan":null,"starts":null,"status":"unknown"',
                      '"bound":null,"makespan":null,"starts":null,"status":"no schedule"'):
-            liar = self.program("liar", f"for file; do case $before in --record) echo > $file; esac; before=$file; done\n"
+            liar = self.program("liar", "for file; do case $before in --record) echo > $file; esac; before=$file; "
+                                "done\n"
                                 f"echo '{{\"conflicts\":1,{said}}}'\nexit 3")
             ran = plan("solve", INPUTS / "two-jobs.sch", "--start", starts, psprove=liar)
             self.assertEqual((ran.returncode, ran.stdout[:18]), (1, "feasible 7 bound 0"))
@@ -176,7 +177,8 @@ class Records(InFolder):
 
 class Progress(InFolder):
     LINE = re.compile(r" *\d+\.\d\d s  (?:schedule (\d+)(?:: .+)?|bound (\d+)|"
-                      r"feasible (\d+) bound (\d+), proved: psprove solve .+|the (second is|.* seconds are) over|stopped)")
+                      r"feasible (\d+) bound (\d+), proved: psprove solve .+|"
+                      r"the (second is|.* seconds are) over|stopped)")
 
     def held(self, out: str, path: pathlib.Path, told: str) -> None:
         """A stopped answer is the best that was told, and a schedule that psmax finds feasible."""

@@ -111,7 +111,8 @@ class Read(InFolder):
         made = book()
         made.active["C7"] = "=1+1"
         data = saved(made)
-        self.refused(plan("check", self.file("p.xlsx", data)), 2, "p.xlsx: cell C7: a formula without its value; open and save")
+        self.refused(plan("check", self.file("p.xlsx", data)), 2,
+                     "p.xlsx: cell C7: a formula without its value; open and save")
         for value, told in (("<v>3</v>", '"3 d"'), ("<v>3.5</v>", '"3,5 d"')):
             self.assertIn(f"Schweißen,{told if ',' in told else told[1:-1]},",
                           as_csv(with_value(data, "<f>1+1</f><v></v>", f"<f>1+1</f>{value}"), "p.xlsx"))
@@ -122,7 +123,8 @@ class Read(InFolder):
             as_csv(error, "p.xlsx")
 
     def test_what_is_none(self) -> None:
-        self.refused(plan("check", self.file("p.xlsx", b"PK\x03\x04")), 2, "this is a spreadsheet file, and it can't be read")
+        self.refused(plan("check", self.file("p.xlsx", b"PK\x03\x04")), 2,
+                     "this is a spreadsheet file, and it can't be read")
         made = io.BytesIO()
         with zipfile.ZipFile(made, "w") as parts:
             parts.writestr("mimetype", "application/vnd.oasis.opendocument.spreadsheet")
@@ -167,7 +169,8 @@ class Written(InFolder):
         sheet = self.written(self.table)["plan chart"]
         self.assertEqual(sheet["A1"].value, "feasible, ends Mon 09.03. 12:00 (44 h)")
         self.assertEqual([cell.value for cell in sheet[3]][4:], [2, 3, 4, 5, 6, 7, 8, 9])
-        painted = ["".join("#" if cell.fill.fgColor.rgb.endswith("0072B2") else "-" if cell.fill.fill_type else "." for cell in
+        painted = ["".join("#" if cell.fill.fgColor.rgb.endswith("0072B2") else "-" if cell.fill.fill_type else "."
+                           for cell in
                            row[4:]) for row in sheet.iter_rows(min_row=4, max_row=6)]
         self.assertEqual(painted, ["##...--.", ".###.--.", ".....--#"])
         self.assertEqual([cell.value for cell in sheet[8]], [None, "Kran", "of 1", None, 1, 1, *[None] * 5, 1])
@@ -181,9 +184,11 @@ class Written(InFolder):
         self.assertEqual(plan("check", again).stdout.replace("again.xlsx", "out.xlsx"), plan("check", self.out).stdout)
         self.refused(plan("write", self.table, self.answer, "--out", self.table), 2, "which would be lost")
         own = self.file("own.xlsx", saved(book()))
-        self.refused(plan("write", self.table, self.answer, "--out", own), 2, "was not written by plan, and would be lost")
+        self.refused(plan("write", self.table, self.answer, "--out", own), 2,
+                     "was not written by plan, and would be lost")
         other = self.file("b.xlsx", "a,b\n")
-        self.refused(plan("write", self.table, self.answer, "--out", other), 2, "was not written by plan, and would be lost")
+        self.refused(plan("write", self.table, self.answer, "--out", other), 2,
+                     "was not written by plan, and would be lost")
 
     def test_limits(self) -> None:
         """Of what openpyxl makes of a file to write it again, which is counted before: by hand, 31 cells of the table,
@@ -202,7 +207,8 @@ class Written(InFolder):
     def test_of_a_text(self) -> None:
         """A table in CSV, and parts of what may pause: its row has the begin of the first and the end of the last."""
         table = self.file("p.csv", 'from,2026-03-02 06:00\nactivity,hours,"crew (1, days)",may pause\nweld,30,1,yes\n')
-        self.answer = self.file("b.csv", "name,start\n" + "".join(f"weld ({k} of 3),{24 * k - 24}\n" for k in (1, 2, 3)))
+        self.answer = self.file("b.csv", "name,start\n"
+                                + "".join(f"weld ({k} of 3),{24 * k - 24}\n" for k in (1, 2, 3)))
         made = self.written(table)
         self.assertEqual(made.sheetnames, ["table", "plan chart"])
         self.assertEqual([cell.value for cell in made["table"][3]][4:6],
@@ -212,8 +218,10 @@ class Written(InFolder):
 class Columns(InFolder):
     def test_own_columns(self) -> None:
         """Words for people alone are passed over. What may be meant for something else is a fault."""
-        for head, cell, told in (("Gewerk", "Rohr", ""), ("Equipment", "E-101", ""), ("deadline", "2026-03-02", "not a column"),
-                                 ("crane", "1", "a resource has its capacity"), ("Status", "fertig", "stands in started"),
+        for head, cell, told in (("Gewerk", "Rohr", ""), ("Equipment", "E-101", ""),
+                                 ("deadline", "2026-03-02", "not a column"),
+                                 ("crane", "1", "a resource has its capacity"),
+                                 ("Status", "fertig", "stands in started"),
                                  ("predecesors", "x1", "did you mean 'predecessors'?"),
                                  ("Ressource", "Kran", "each resource has a column of its own")):
             with self.subTest(head):
@@ -225,4 +233,5 @@ class Columns(InFolder):
         table = self.file("p.csv", "ID,activity,days,predecessors\n7,weld,1,\n8,weld,2,7\n9,test,1,8\n")
         told = plan("check", table, self.file("a.csv", "name,start\nweld (7),0\nweld (8),1\ntest,2\n")).stdout
         self.assertIn("9 (test) must start no sooner than 8 (weld (8)) ends", told)
-        self.refused(plan("check", self.file("q.csv", "activity,days\nweld,1\nweld,2\n")), 2, "a second activity 'weld'")
+        self.refused(plan("check", self.file("q.csv", "activity,days\nweld,1\nweld,2\n")), 2,
+                     "a second activity 'weld'")

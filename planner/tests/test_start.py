@@ -20,7 +20,8 @@ TENTH = 6.0  # seconds of the default limit of a search
 class Start(InFolder):
     def test_what_is_imported(self) -> None:
         env = {**os.environ, **CALLED, "PYTHONPATH": str(TOP / "python")}
-        words = [sys.executable, "-S", "-c", SCRIPT, "solve", str(EXAMPLES / "hall.csv"), "--out", str(self.folder / "a.csv")]
+        words = [sys.executable, "-S", "-c", SCRIPT, "solve", str(EXAMPLES / "hall.csv"), "--out",
+                 str(self.folder / "a.csv")]
         ran = subprocess.run(words, env=env, capture_output=True, text=True)
         imported = {*ran.stdout.splitlines()[-1].split()}
         self.assertEqual((ran.returncode, "psmax.planner.table" in imported), (0, True), ran.stderr)

@@ -25,10 +25,12 @@ class Table(InFolder):
         record, page = self.folder / "plan.rec", self.folder / "page.html"
         for words, told in ((("solve", self.table, "--record", record), "optimal 7\n"),
                             (("check", self.table, self.answer), "7"),
-                            (("verify", self.table, record), "has one that long"), (("write", self.table, self.answer), "roof"),
+                            (("verify", self.table, record), "has one that long"),
+                            (("write", self.table, self.answer), "roof"),
                             (("gantt", self.table, self.answer), "####"), (("float", self.table, self.answer), "free"),
                             (("report", self.table, self.answer, "--out", page), ""),
-                            (("compare", self.table, self.answer, self.answer), "2 of 2"), (("why", self.table), "one of 7"),
+                            (("compare", self.table, self.answer, self.answer), "2 of 2"),
+                            (("why", self.table), "one of 7"),
                             (("whatif", self.table), "optimal 4: one more of crane")):
             with self.subTest(words[0]):
                 ran = plan(*words)
@@ -49,9 +51,12 @@ class Table(InFolder):
         text = self.made()
         self.assertEqual(plan("check", text, self.answer).stdout, "feasible 7\n")
         self.table.write_text(LONGER)
-        told = f"{text} is older than its table {self.table}, which was changed; give the table itself, or make the project"
-        for words in (("solve", text), ("check", text, self.answer), ("report", text, self.answer, "--out", self.folder / "p"),
-                      ("whatif", text), ("why", text), ("verify", text, text), ("compare", text, self.answer, self.answer)):
+        told = (f"{text} is older than its table {self.table}, which was changed; give the table itself, or make the "
+                "project")
+        for words in (("solve", text), ("check", text, self.answer),
+                      ("report", text, self.answer, "--out", self.folder / "p"),
+                      ("whatif", text), ("why", text), ("verify", text, text),
+                      ("compare", text, self.answer, self.answer)):
             with self.subTest(words[0]):
                 self.refused(plan(*words), 2, told)
         self.made()
@@ -74,14 +79,17 @@ class Table(InFolder):
         above = "title,The hall,\nfrom,2026-03-06,\nWorkdays:,Mo-Fr,\n,,\n"
         table = self.file("above.csv", above + TABLE)
         self.assertIn("2,lift roof,3,4,7,2026-03-11,2026-03-16", plan("write", table, self.answer).stdout)
-        self.assertIn("2026-03-14", plan("write", table, self.answer, "--workdays", "mon-sun", "--from", "2026-03-08").stdout)
+        self.assertIn("2026-03-14", plan("write", table, self.answer, "--workdays", "mon-sun", "--from",
+                                         "2026-03-08").stdout)
         for rows, told in (("shifts,07:00-12:00\n", "row 1, column A: no setting 'shifts'; did you mean 'shift'?"),
                            ("from,2026-03-06\nFrom:,2026-03-07\n", "row 2, column A: a second row for 'from'")):
             self.refused(plan("solve", self.file("bad.csv", rows + TABLE)), 2, told)
         split = self.file("split.csv", "from,2026-03-02\nworkdays,mon,wed,fri\nshift,08:00-12:00,13:00-17:00\n"
                           "activity,hours\na,20\n")
-        self.assertIn("2026-03-02 08:00,2026-03-06 12:00", plan("write", split, self.file("s.csv", "name,start\na,0\n")).stdout)
-        self.refused(plan("solve", self.file("bad.csv", above + TABLE.replace("beams,3", "beams,x"))), 2, "row 6, column B")
+        self.assertIn("2026-03-02 08:00,2026-03-06 12:00",
+                      plan("write", split, self.file("s.csv", "name,start\na,0\n")).stdout)
+        self.refused(plan("solve", self.file("bad.csv", above + TABLE.replace("beams,3", "beams,x"))), 2,
+                     "row 6, column B")
 
     def test_a_batch_of_tables(self) -> None:
         self.file("other.sch", "1 0 0 0\n0 1 0\n1 1 0\n2 1 0\n0 1 0\n1 1 5\n2 1 0\n")

@@ -39,7 +39,8 @@ SAID = (
 )
 # What a file can't say, and what is told of it.
 UNSAID = (
-    (".xml", f"{OFFICE}name,hours,after,at least\na,1,,\nb,1,a,5 cd\n", "mspdi has no lags in calendar days: 'a' and 'b'"),
+    (".xml", f"{OFFICE}name,hours,after,at least\na,1,,\nb,1,a,5 cd\n",
+     "mspdi has no lags in calendar days: 'a' and 'b'"),
     (".xml", f"{HEAD}name,hours,after,at most\na,1,,\n" + "".join(f"b{i},1,a,90\n" for i in range(30)) + "c,1,b0,\n"
      + "".join(f",,start of b{i},900\n" for i in range(30)), "'c': it has more maximum lags than a field of 255 signs"),
     (".xml", "name,days\na,1\n", "MSPDI needs dates, which follow from the first day of the project"),

@@ -43,7 +43,8 @@ class Total(InFolder):
         for number, latest in ((1, 4), (2, 3), (3, 5)):
             starts = (out / f"{number}.starts").read_text()
             self.assertIn(f"{number} {latest}\n", starts)
-            self.assertTrue(psmax("check", "--project", out / "project.sch", given=starts.encode()).startswith("feasible "))
+            self.assertTrue(psmax("check", "--project", out / "project.sch",
+                                  given=starts.encode()).startswith("feasible "))
             self.assertIn(f"[{latest + 1}]", (out / f"{number}.sch").read_text())
             words = [sys.executable, f"{TOP}/tests/verify_log.py", f"{out}/{number}.sch"]
             ran = subprocess.run(words, input=(out / f"{number}.record").read_bytes(), capture_output=True)
@@ -72,7 +73,8 @@ class Total(InFolder):
         """It is an interval, and said so: here psprove says nothing at all."""
         table, answer = self.file("p.csv", TABLE), self.file("a.csv", "name,start\na,0\nb,3\nc,0\n")
         with mock.patch("psmax.process.ENDING", 0.1):
-            ran = plan("float", table, answer, "--total", "--seconds", "1", psprove=self.program("slow", "exec sleep 9"))
+            ran = plan("float", table, answer, "--total", "--seconds", "1",
+                       psprove=self.program("slow", "exec sleep 9"))
         self.assertEqual(ran.returncode, 3)
         self.assertIn("the total float of 3 of 3 activities is known as an interval alone", ran.stderr)
         self.assertIn("0 to 4", ran.stdout)
@@ -91,4 +93,5 @@ class Total(InFolder):
         self.refused(plan(*words, other), 2, "doesn't keep what has started by --start and --frozen")
 
     def test_faults(self) -> None:
-        self.refused(plan("float", INPUTS / "two-jobs.sch", "--total", given=b"0 0\n1 0\n2 2\n3 6\n"), 2, "not a schedule")
+        self.refused(plan("float", INPUTS / "two-jobs.sch", "--total", given=b"0 0\n1 0\n2 2\n3 6\n"), 2,
+                     "not a schedule")

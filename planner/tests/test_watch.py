@@ -45,7 +45,8 @@ class Following(Watches):
         self.assertIn("get trusses", moved["later"])
         self.assertNotIn("gone", moved)
         state = watch.saved(HALL, done("(27 days)"))
-        self.assertEqual({kind: [name for name, _ in moves] for kind, moves in state["moved"]}["gone"], ["test the bolts"])
+        self.assertEqual({kind: [name for name, _ in moves] for kind, moves in state["moved"]}["gone"],
+                         ["test the bolts"])
 
     def test_other_files(self) -> None:
         """A day off and a day without the crane, in files that the table names, and a status date. By hand: 3 March is
@@ -94,7 +95,8 @@ class Following(Watches):
         self.assertEqual(state["why"], plan("why", watch.table).stdout.splitlines())
         self.assertIn("  Allow 2 (b) to start 1 day later, which is enough, and less is not: ", "\n".join(state["why"]))
         self.assertEqual(state["parts"]["arrows"].count(" circle"), 2)
-        state = watch.saved("activity,days,crane (1),after\na,3,1,\nb,4,1,with a\n", lambda state: "crane" in f"{state['why']}")
+        state = watch.saved("activity,days,crane (1),after\na,3,1,\nb,4,1,with a\n",
+                            lambda state: "crane" in f"{state['why']}")
         told = "; ".join(state["why"])
         self.assertIn("without any one of them there is a schedule:;   crane, of which there is 1", told)
         self.assertIn("Without this lag there is a schedule of 7", told)
@@ -152,7 +154,8 @@ class Halves(Watches):
         watch.until(done("optimal 7"))
         for text, told, value in ((TWO[:-1], "the last row has no end", 7), (TWO[:24], "1 rows are left of 3", None)):
             state = watch.saved(text, lambda state: state["faults"])
-            self.assertEqual(state["faults"], [f"{watch.table}: {told}, so it may be half saved; save it once more to plan it"])
+            self.assertEqual(state["faults"], [f"{watch.table}: {told}, so it may be half saved; save it once more to "
+                                               "plan it"])
             self.assertIn("optimal 7", state["line"])
             if value is not None:
                 watch.saved(text, lambda state: not state["faults"] and done(f"optimal {value}")(state))
@@ -230,7 +233,8 @@ class Orders(Watches):
         self.assertEqual(record.read_bytes(), pathlib.Path(f"{found[1]}.record").read_bytes())
 
     def test_ctrl_c_while_it_searches(self) -> None:
-        watch = self.watching(TWO, psprove=self.stand_in(tells=TELLS[:2], then="waits", answer={"bound": 4, "starts": LONG}))
+        watch = self.watching(TWO, psprove=self.stand_in(tells=TELLS[:2], then="waits",
+                                                         answer={"bound": 4, "starts": LONG}))
         watch.until(lambda state: "feasible 12 bound 4" in state["line"])
         watch.child.send_signal(signal.SIGTERM)
         out, told = watch.child.communicate(timeout=60)
@@ -246,11 +250,13 @@ class Safe(Watches):
         watch = self.watching(TWO)
         place = urlsplit(watch.address)
         other = place.path[:-2] + ("A" if place.path[-2] != "A" else "B") + "/"
-        for path in ("/", "/state", "//", "//[", "*", other, f"{other}state", f"{place.path}other", f"{place.path}../p.csv",
+        for path in ("/", "/state", "//", "//[", "*", other, f"{other}state", f"{place.path}other",
+                     f"{place.path}../p.csv",
                      f"{place.path}?x=1", "/%C3%A9/state", f"{place.path}state?after=x"):
             with self.subTest(path):
                 self.assertEqual(watch.ask("GET", path)[0], 403)
-        for heads in ({"Host": "localhost:1"}, {"Host": "evil.example"}, {"Host": ""}, {"Host": f"localhost:{place.port}"},
+        for heads in ({"Host": "localhost:1"}, {"Host": "evil.example"}, {"Host": ""},
+                      {"Host": f"localhost:{place.port}"},
                       {"Origin": "http://evil.example"}, {"Origin": "null"}, {"Origin": f"https://{place.netloc}"}):
             with self.subTest(heads):
                 for path in (place.path, f"{place.path}state"):

@@ -157,7 +157,8 @@ class InBrowser(Watches):
         self.assertTrue(fetched and all(one.startswith(watch.address) for one in fetched), fetched)
         self.driver.get(f"data:text/html,{quote('<title>other</title>')}")
         for name, method in (("state", "GET"), ("stop", "POST"), ("keep", "POST")):
-            self.assertTrue(self.driver.execute_async_script(FETCH, f"{watch.address}{name}", method).startswith("refused: "))
+            self.assertTrue(self.driver.execute_async_script(FETCH, f"{watch.address}{name}",
+                                                             method).startswith("refused: "))
         state = watch.state()
         self.assertTrue(state is not None and state["busy"])
         self.assertEqual([*self.folder.glob("p-*")], [])

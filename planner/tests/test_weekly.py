@@ -7,8 +7,10 @@ from .helpers import InFolder, Ran, plan
 
 # By hand, one crane, from Monday 2 March 2026 on, Monday to Friday: 3 + 2 + 4 days end on Thursday of the next week,
 # the 12th. Two days more of digging end on Monday the 16th.
-GERMAN = "from;02.03.2026;;\nworkdays;Mo-Fr;;\nactivity;days;Kran (1);after\nAushub;3;1;\nMauer;2;1;Aushub\nDach;4;1;Mauer\n"
-ENGLISH = "from,2026-03-02,,\nworkdays,mon-fri,,\nactivity,days,crane (1),after\ndig,3,1,\nwall,2,1,dig\nroof,4,1,wall\n"
+GERMAN = ("from;02.03.2026;;\nworkdays;Mo-Fr;;\n"
+          "activity;days;Kran (1);after\nAushub;3;1;\nMauer;2;1;Aushub\nDach;4;1;Mauer\n")
+ENGLISH = ("from,2026-03-02,,\nworkdays,mon-fri,,\n"
+           "activity,days,crane (1),after\ndig,3,1,\nwall,2,1,dig\nroof,4,1,wall\n")
 EDITS = ((GERMAN, "Aushub;3", "Aushub;5", "Mon 16.03."), (ENGLISH, "dig,3", "dig,5", "Mon 2026-03-16"))
 
 
@@ -35,7 +37,8 @@ class Weekly(InFolder):
             old, before = self.answer.read_bytes(), len(self.kept())
             ran = self.solved(text.replace(was, now))
             self.assertEqual(ran.stdout, f"optimal, ends {ends} (11 days)\n")
-            near = f"plan.csv is a plan of {self.table} before it was changed: the search begins near to it, with 3 of 3"
+            near = (f"plan.csv is a plan of {self.table} before it was changed: the search begins near to it, with 3 "
+                    "of 3")
             self.assertIn(near, ran.stderr)
             self.assertIn("--frozen DAY", ran.stderr)
             self.assertIn("plan.csv, repaired", ran.stderr)

@@ -9,7 +9,8 @@ class WhatIf(InFolder):
         """By hand: two jobs of 3 and 4 take 7 on one machine, and 4 on two."""
         ran = plan("whatif", self.file("two.sch", TWO_JOBS))
         self.assertEqual((ran.returncode, ran.stdout),
-                         (0, "As it is: optimal 7.\n  optimal 4: one more of resource 0, of which there is 1\n"), ran.stderr)
+                         (0, "As it is: optimal 7.\n  optimal 4: one more of resource 0, of which there is 1\n"),
+                         ran.stderr)
 
     def test_what_opens_a_schedule(self) -> None:
         """By hand: on one machine 2 starts from 0 to 2 after 1, which takes 3. With 3 in place of 2 it follows at once,
@@ -59,7 +60,8 @@ class WhatIf(InFolder):
         table = self.file("p.csv", "from,2026-03-02\nworkdays,Mo-Fr\nabsences,away.csv\nID,activity,days,crane (1)\n"
                           "7,a,3,1\n8,b,2,1\n9,c,4,1\n")
         changes = {"saturdays": "Fri 2026-03-13 (11 days), 3 days sooner",
-                   "crane +1": "Mon 2026-03-09 (6 days), 7 days sooner", "9 1 d": "Wed 2026-03-11 (8 days), 5 days sooner",
+                   "crane +1": "Mon 2026-03-09 (6 days), 7 days sooner",
+                   "9 1 d": "Wed 2026-03-11 (8 days), 5 days sooner",
                    "drop absence Crane": "Thu 2026-03-12 (9 days), 4 days sooner",
                    "ohne Abwesenheiten crane; c -1 d; samstags": "Tue 2026-03-10 (8 days), 6 days sooner"}
         ran = plan("whatif", table, *changes, "--jobs", "1")

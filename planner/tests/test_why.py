@@ -23,8 +23,8 @@ class Why(InFolder):
         self.told(INPUTS / "two-jobs-positive-cycle.sch", "There is no schedule.",
                   f"{ALONE}  2 starts at most 1 after 1 ends\n",
                   "2 starts at least 2 after 1 ends", "Together they ask for 1 period more than there is.",
-                  "a schedule of 9: 2 starts at most 1 after 1 ends.\n  Allow 2 to start 1 period later, which is enough, and "
-                  "less is not: 2 starts at most 2 after 1 ends.")
+                  "a schedule of 9: 2 starts at most 1 after 1 ends.\n  Allow 2 to start 1 period later, which is "
+                  "enough, and less is not: 2 starts at most 2 after 1 ends.")
 
     def test_needs_more_than_there_is(self) -> None:
         self.told(INPUTS / "one-job-too-big.sch", "There is no schedule.",
@@ -51,8 +51,10 @@ class Why(InFolder):
         text = (EXAMPLES / "building-site.sch").read_text().replace("[-7] [1]", "[-3] [1]")
         self.file("site.md", (EXAMPLES / "building-site.md").read_bytes())
         self.told(self.file("site.sch", text), "Together they ask for 2 days more than there are.",
-                  "3 (blinding concrete) starts at most 3 after 2 (excavate) starts", "Allow 3 (blinding concrete) to start 2 "
-                  "days later, which is enough, and less is not: 3 (blinding concrete) starts no later than 2 (excavate) ends.")
+                  "3 (blinding concrete) starts at most 3 after 2 (excavate) starts",
+                  "Allow 3 (blinding concrete) to start 2 "
+                  "days later, which is enough, and less is not: 3 (blinding concrete) starts no later than 2 "
+                  "(excavate) ends.")
 
     def test_there_is_one(self) -> None:
         self.told(EXAMPLES / "building-site.sch", "There is a schedule: psprove has found one of 36.")
@@ -86,20 +88,23 @@ Without this lag there is a schedule of 7: 3 (roof) ends by 2026-03-09.
                               f"x;3;;;;;\ny;2;1;x;;{day};\nz;4;1;;;09.03.2026;4\n")
             told = plan("why", table).stdout
             self.assertIn("Together they ask for 1 day more than there is.\n", told)
-            self.assertIn("Allow 2 (y) to end 6 days later, which is enough, and less is not: 2 (y) ends by 11.03.2026.", told)
+            self.assertIn("Allow 2 (y) to end 6 days later, which is enough, and less is not: 2 (y) ends by "
+                          "11.03.2026.", told)
             self.assertNotIn("sooner after", told)
             self.assertNotIn("to end 1 day", told)
 
     def test_a_deadline(self) -> None:
         """By hand: two jobs of 3 and 4 on one machine take 7, so one day more than 6 is enough."""
         told = plan("why", INPUTS / "two-jobs.sch", "--within", 6).stdout
-        self.assertEqual(told.splitlines()[-1], "Allow the project to end 1 period later, which is enough, and less is not.")
+        self.assertEqual(told.splitlines()[-1], "Allow the project to end 1 period later, which is enough, and less is "
+                         "not.")
 
     def test_starts_that_nobody_wrote(self) -> None:
         """By hand, from Monday 2 March on, with Thursday as status: a has started on Tuesday, and b has not started."""
         table = self.file("p.csv", "from,2026-03-02\nstatus,2026-03-05\nactivity,days,after,end by,started,finished\n"
                           "a,2,,,2026-03-03,2026-03-04\nb,2,,2026-03-05,,\n")
-        self.assertIn("2 (b) starts on 2026-03-05 or later, since the status date is 2026-03-05\n", plan("why", table).stdout)
+        self.assertIn("2 (b) starts on 2026-03-05 or later, since the status date is 2026-03-05\n",
+                      plan("why", table).stdout)
         table.write_text(table.read_text().replace("b,2,,2026-03-05,,", "b,2,,2026-03-09,,\n,,start of a,,,")
                          .replace("after,", "after,at most,").replace("a,2,,", "a,2,,,").replace("b,2,,", "b,2,,,")
                          .replace("start of a,,", "start of a,1,,"))
@@ -142,5 +147,6 @@ Without this lag there is a schedule of 7: 3 (roof) ends by 2026-03-09.
 
     def test_time_is_over(self) -> None:
         with mock.patch("psmax.process.ENDING", 0.1):
-            ran = plan("why", EXAMPLES / "building-site.sch", "--seconds", "1", psprove=self.program("slow", "exec sleep 9"))
+            ran = plan("why", EXAMPLES / "building-site.sch", "--seconds", "1",
+                       psprove=self.program("slow", "exec sleep 9"))
         self.assertEqual((ran.returncode, ran.stdout[:10]), (3, "Not known:"))

@@ -30,8 +30,8 @@ class Write(InFolder):
     def test_what_is_no_schedule_is_refused(self) -> None:
         out = self.folder / "plan.csv"
         ran = plan("write", EXAMPLES / "building-site.sch", EXAMPLES / "building-site-infeasible.starts", "--out", out)
-        self.refused(ran, 2, "not a schedule: 13 (strike the scaffold) must start at most 18 after 12 (erect the scaffold) "
-                     "ends, and starts 21 after it does", "2 units of Excavator are in use", faults=3)
+        self.refused(ran, 2, "not a schedule: 13 (strike the scaffold) must start at most 18 after 12 (erect the "
+                     "scaffold) ends, and starts 21 after it does", "2 units of Excavator are in use", faults=3)
         self.assertFalse(out.exists())
         self.refused(plan("write", INPUTS / "two-jobs.sch", given=b"no schedule\n"), 2, "no schedule")
 

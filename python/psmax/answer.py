@@ -171,7 +171,8 @@ class Progress:
         return True
 
     def __str__(self) -> str:
-        told = [f"{word} {number}" for word, number in (("schedule", self.value), ("bound", self.bound)) if number is not None]
+        told = [f"{word} {number}" for word, number in (("schedule", self.value), ("bound", self.bound))
+                if number is not None]
         return f"{self.seconds:.2f} s: {', '.join(told) or 'no schedule'}"
 
 
@@ -221,7 +222,8 @@ class Answer(Progress):
         """With the keys of `psmax solve --json`, but for the starts, which are by name."""
         late = {"lateness": self.lateness} if self.minimize is Goal.LATENESS else {}
         return {"bound": self.bound, "makespan": self.makespan,
-                "starts": None if self.schedule is None else self.schedule.to_dict(), "status": self.status.value, **late,
+                "starts": None if self.schedule is None else self.schedule.to_dict(), "status": self.status.value,
+                **late,
                 "conflicts": self.conflicts, "seconds": round(self.seconds, 3)}
 
     @classmethod
@@ -286,8 +288,8 @@ class Checked:
 
 @dataclass(frozen=True)
 class Float:
-    """How much later an activity can start in some schedule that is no longer: at least and at most so much. Proved, both
-    are one."""
+    """How much later an activity can start in some schedule that is no longer: at least and at most so much. Proved,
+    both are one."""
 
     least: int
     most: int

@@ -48,10 +48,10 @@ class Project(Parts):
     @classmethod
     def read(cls, source: str | bytes | os.PathLike[str], format: str | None = None, sheet: str | None = None,
              change: str | None = None) -> Self:
-        """A project from a file, or from a text: bytes, or more lines than one, or what begins as JSON or XML. The text says
-        which format it has, or else `format` does. A table of `plan` is read too, in CSV or in a sheet of a spreadsheet
-        file, with a `change` as `plan whatif` takes it, such as 'crew +2; sundays'. What is to be said of a table goes
-        to the log.
+        """A project from a file, or from a text: bytes, or more lines than one, or what begins as JSON or XML. The text
+        says which format it has, or else `format` does. A table of `plan` is read too, in CSV or in a sheet of a
+        spreadsheet file, with a `change` as `plan whatif` takes it, such as 'crew +2; sundays'. What is to be said of a
+        table goes to the log.
 
         BadInput where it is no project, or has a fault; Failed where the file can't be read."""
         for text, what in ((format, "the name of a format"), (sheet, "the name of a sheet"), (change, "a change")):
@@ -171,10 +171,10 @@ class Project(Parts):
     def replan(self, before: Frozen, now: Time, seconds: float = SECONDS, jobs: int | None = None, *,
                started: Mapping[Activity, Time] | Mapping[str, Time] | None = None, record: bool | Path | None = None,
                minimize: str = "makespan") -> Answer:
-        """A plan from `now` on, near to the one before: an answer, a schedule, or starts such as `read_starts` gives. What
-        has started stays: what `started` says, or else what starts before `now` in that plan. Durations may be others by
-        now, and activities may be new or gone; they are known by their names. BadInput where what has started breaks
-        lags or resources by itself."""
+        """A plan from `now` on, near to the one before: an answer, a schedule, or starts such as `read_starts` gives.
+        What has started stays: what `started` says, or else what starts before `now` in that plan. Durations may be
+        others by now, and activities may be new or gone; they are known by their names. BadInput where what has started
+        breaks lags or resources by itself."""
         time, old = first_time(now, "now", self.calendar), same_named(self, before)
         frozen = started_by(old, time) if started is None else dict(pairs_of(self, started))
         must_keep_started(self, frozen)
@@ -205,8 +205,8 @@ class Project(Parts):
                    found is not None and {*needed} == {*found.schedules}, schedule)
 
     def whatif(self, seconds: float = SECONDS, jobs: int | None = None, minimize: str = "makespan") -> list[Changed]:
-        """What one unit more of each resource, each absence less, and each maximum lag longer or dropped gives, proved by
-        psprove. The shortest schedule comes first."""
+        """What one unit more of each resource, each absence less, and each maximum lag longer or dropped gives, proved
+        by psprove. The shortest schedule comes first."""
         clock, numbers = clock_of(seconds), self.numbers(minimize)
         with clock.interrupted():
             _, outcomes = whatif.try_changes(numbers, Psprove(clock, CALLED), checked_jobs(jobs))
@@ -215,7 +215,8 @@ class Project(Parts):
 
     def float(self, schedule: Starts, seconds: float = SECONDS, jobs: int | None = None,
               minimize: str = "makespan") -> dict[Activity, Float]:
-        """How much later each activity can start in some schedule that is no longer than this one, proved by psprove."""
+        """How much later each activity can start in some schedule that is no longer than this one, proved by
+        psprove."""
         clock, asked = clock_of(seconds), question(self, minimize)
         starts, psprove = feasible_starts(asked, schedule), Psprove(clock, CALLED)
         found = TotalFloat(asked.numbers, starts, (), psprove, is_recorded=False)

@@ -40,8 +40,8 @@ class Calendar:
         raise NotImplementedError
 
     def span(self, begins: int, ends: int, is_morning: bool = False) -> tuple[datetime.datetime, datetime.datetime]:
-        """The first and the last day of work, or the moments. What takes no time stands at the end of the work before it, or
-        where the next begins."""
+        """The first and the last day of work, or the moments. What takes no time stands at the end of the work before
+        it, or where the next begins."""
         raise NotImplementedError
 
     def times(self, begins: int, ends: int, is_morning: bool = False) -> tuple[str, str]:
@@ -183,7 +183,8 @@ class Days(Calendar):
 
 
 class Moments(Calendar):
-    """Periods of so many minutes, around the clock. In a time zone a day on which clocks change has an hour less or more."""
+    """Periods of so many minutes, around the clock. In a time zone a day on which clocks change has an hour less or
+    more."""
 
     heads = ("from", "until")
 

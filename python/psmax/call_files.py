@@ -1,5 +1,5 @@
-"""The files of a call: those that it reads, and those that it writes. No written one is a read one, and no two written ones
-are the same, whatever they are called. All commands and the package ask here, before anything is done."""
+"""The files of a call: those that it reads, and those that it writes. No written one is a read one, and no two written
+ones are the same, whatever they are called. All commands and the package ask here, before anything is done."""
 import os
 from collections.abc import Iterable, Mapping
 
@@ -10,8 +10,8 @@ Identity = tuple[int, int, str]  # a file's device and number; of one that isn't
 
 
 def lose_none(reads: Mapping[str, str], writes: Iterable[str | None], folder: str | None = None) -> None:
-    """A fault where a file that the call reads would be lost, or one that it writes. What is read stands by what it is. The
-    folder is one whose files the call names itself; nothing else that it reads or writes lies there."""
+    """A fault where a file that the call reads would be lost, or one that it writes. What is read stands by what it is.
+    The folder is one whose files the call names itself; nothing else that it reads or writes lies there."""
     read = {identity(path): what for what, path in reads.items() if is_there(path)}
     written: set[Identity] = set()
     for path in (path for path in writes if path is not None):
@@ -26,7 +26,8 @@ def lose_none(reads: Mapping[str, str], writes: Iterable[str | None], folder: st
         written.add(found)
     for what, path in reads.items():
         if folder is not None and is_there(path) and lies_in(path, folder):
-            raise BadInput(f"{path} is {what}, and would be lost, since it lies in {folder}, whose files plan names itself")
+            raise BadInput(f"{path} is {what}, and would be lost, since it lies in {folder}, whose files plan names "
+                           "itself")
 
 
 def input_path(path: str) -> str:

@@ -27,7 +27,8 @@ def record_of(root: Case, starts: Sequence[int] | None, folder: str | None) -> R
 
 
 def node_of(case: Case) -> dict[str, int | None]:
-    """Of a case that was split: its lag, and the time. Of a leaf: how many bytes its record has, and up to which schedules."""
+    """Of a case that was split: its lag, and the time. Of a leaf: how many bytes its record has, and up to which
+    schedules."""
     if case.split is not None:
         return {"lag": case.split[0], "time": case.split[1]}
     return {"bytes": 0 if case.record is None else case.record.size(), "ceiling": case.ceiling}
@@ -50,8 +51,8 @@ class Leaf:
 
 
 def read_cases(data: bytes, project: Numbers) -> tuple[list[Leaf], tuple[int, ...] | None]:
-    """The leaves, which have all schedules of the project between them, and the best schedule. What is no record of cases
-    raises one of `ODD`."""
+    """The leaves, which have all schedules of the project between them, and the best schedule. What is no record of
+    cases raises one of `ODD`."""
     head, _, records = data.removeprefix(BEGIN).partition(b"\n")
     told = json.loads(head)
     waiting, leaves, place = [tuple[Arc, ...]()], list[Leaf](), 0
@@ -65,7 +66,8 @@ def read_cases(data: bytes, project: Numbers) -> tuple[list[Leaf], tuple[int, ..
             leaves.append(Leaf(arcs, None if ceiling is None else read_whole(ceiling), records[place:end]))
             place = end
     starts = None if told["starts"] is None else tuple(map(read_whole, told["starts"]))
-    if waiting or place != len(records) or not data.startswith(BEGIN) or len(starts or project.durations) != project.end + 1:
+    is_whole = data.startswith(BEGIN) and not waiting and place == len(records)
+    if not is_whole or len(starts or project.durations) != project.end + 1:
         raise ValueError
     return leaves, starts
 

@@ -1,6 +1,6 @@
-"""A project with lags in calendar days is searched exactly: by cases. The search begins with the lags that every date allows.
-Where its best schedule breaks a true lag, it goes on in two cases that have all schedules between them. Each is an ordinary
-project with a record of its own. The answer is the best of all cases, with the least of their bounds."""
+"""A project with lags in calendar days is searched exactly: by cases. The search begins with the lags that every date
+allows. Where its best schedule breaks a true lag, it goes on in two cases that have all schedules between them. Each is
+an ordinary project with a record of its own. The answer is the best of all cases, with the least of their bounds."""
 import math
 from collections.abc import Callable, Iterator, Sequence
 from contextlib import suppress
@@ -59,23 +59,24 @@ class Case:
 
 
 def ordinary(project: Numbers, case: Sequence[Arc], ceiling: int | None) -> Numbers:
-    """The ordinary project of a case, which has all of its schedules. Where the case and the ceiling leave few dates, a lag is
-    what these allow."""
+    """The ordinary project of a case, which has all of its schedules. Where the case and the ceiling leave few dates, a
+    lag is what these allow."""
     plain = replace(project, arcs=(*project.arcs, *case, *by_horizon(project)), dated=())
     limited = plain if ceiling is None else within(plain, ceiling) or plain
     if least_starts(limited) is None:
         return limited
     soonest, latest = soonest_starts(limited, project.dated), latest_starts(limited)
-    more = [one.within(soonest[one.first], int(latest[one.first])) for one in project.dated if latest[one.first] < math.inf]
+    more = [one.within(soonest[one.first], int(latest[one.first])) for one in project.dated
+            if latest[one.first] < math.inf]
     more += [Arc(0, one.last, soonest[one.last]) for one in project.dated if one.is_least]
     return replace(limited, arcs=(*limited.arcs, *more))
 
 
 def by_horizon(project: Numbers) -> list[Arc]:
-    """Arcs by which all ends by a horizon, as some shortest schedule does. Time T is behind all holidays, absences and dates:
-    from there on a round R of the calendar, such as a week, is like another. Where an activity starts behind T + R, and R
-    after whatever starts before it has ended and holds nothing back any more, it may start R sooner, and so may all that
-    does not start before it. In the end no such gap is left."""
+    """Arcs by which all ends by a horizon, as some shortest schedule does. Time T is behind all holidays, absences and
+    dates: from there on a round R of the calendar, such as a week, is like another. Where an activity starts behind T +
+    R, and R after whatever starts before it has ended and holds nothing back any more, it may start R sooner, and so
+    may all that does not start before it. In the end no such gap is left."""
     round_of = max((one.calendar.round_or_none() or 0 for one in project.dated), default=0)
     longest = [*project.durations]
     for tail, head, lag in project.arcs:

@@ -58,8 +58,8 @@ class Clock:
 
     @contextmanager
     def interrupted(self) -> Iterator[None]:
-        """Meanwhile the first Ctrl-C stops this clock; one more raises KeyboardInterrupt. Python hands signals to its main
-        thread alone."""
+        """Meanwhile the first Ctrl-C stops this clock; one more raises KeyboardInterrupt. Python hands signals to its
+        main thread alone."""
         before = signal.getsignal(signal.SIGINT)
         if threading.current_thread() is not threading.main_thread() or before is None:
             yield

@@ -28,7 +28,8 @@ class DatedLag:
     calendar: Calendar
 
     @classmethod
-    def of(cls, before: int, after: int, base: int, days: int, is_least: bool, takes_time: bool, calendar: Calendar) -> Self:
+    def of(cls, before: int, after: int, base: int, days: int, is_least: bool, takes_time: bool,
+           calendar: Calendar) -> Self:
         """From the start of an activity, which may take time, to that of another one."""
         from_end = base > 0 if takes_time else not is_least
         least, most = everywhere(calendar, days, from_end, is_least)
@@ -46,8 +47,8 @@ class DatedLag:
         return self.arc.head if self.is_least else self.arc.tail
 
     def limit(self, time: int) -> int:
-        """The first start that is late enough where it counts from this time, or the last one that is soon enough. It never
-        falls as the time rises."""
+        """The first start that is late enough where it counts from this time, or the last one that is soon enough. It
+        never falls as the time rises."""
         return limit_at(self.calendar, self.days, self.from_end, self.is_least, time)
 
     def slack(self, starts: Sequence[int] | Mapping[int, int]) -> int:
@@ -56,8 +57,9 @@ class DatedLag:
         return starts[self.last] - found if self.is_least else found - starts[self.last]
 
     def split(self, time: int) -> tuple[tuple[Arc, ...], tuple[Arc, ...]]:
-        """The arcs of two cases, of which each schedule that keeps it has one: it counts from before this time; or from then or
-        later, and the last activity starts no sooner than if it were from then. A maximum lag is the other way round."""
+        """The arcs of two cases, of which each schedule that keeps it has one: it counts from before this time; or from
+        then or later, and the last activity starts no sooner than if it were from then. A maximum lag is the other way
+        round."""
         start, found = time - self.base, self.limit(time)
         if self.is_least:
             return (Arc(self.first, 0, 1 - start),), (Arc(0, self.first, start), Arc(0, self.last, found))
@@ -81,7 +83,8 @@ class DatedLag:
         if latest - soonest > LONGEST:
             return self.arc
         lags = [self.limit(start + self.base) - start for start in range(soonest, latest + 1)]
-        return self.arc._replace(lag=max(self.arc.lag, min(lags) if self.is_least else -max(lags))) if lags else self.arc
+        least = (min(lags) if self.is_least else -max(lags)) if lags else self.arc.lag
+        return self.arc._replace(lag=max(self.arc.lag, least))
 
 
 @dataclass(frozen=True)
@@ -123,13 +126,14 @@ def limit_at(calendar: Calendar, days: int, from_end: bool, is_least: bool, time
 
 @lru_cache(maxsize=1_000)
 def everywhere(calendar: Calendar, days: int, from_end: bool, is_least: bool) -> tuple[int, int]:
-    """The least and the greatest number of periods that such a lag can be, wherever it begins. Far from holidays one week is
-    like another. Where clocks change a day has more periods or fewer."""
+    """The least and the greatest number of periods that such a lag can be, wherever it begins. Far from holidays one
+    week is like another. Where clocks change a day has more periods or fewer."""
     plain, least = calendar.without_holidays(), int(from_end)
     lags = {limit_at(plain, days, from_end, is_least, time) - time for time in range(least, plain.round() + 1)}
     for holiday in calendar.holidays_of():
         first, last = calendar.from_on(holiday - (days + 1) * DAY), calendar.from_on(holiday + DAY)
-        lags |= {limit_at(calendar, days, from_end, is_least, time) - time for time in range(max(least, first), last + 1)}
+        lags |= {limit_at(calendar, days, from_end, is_least, time) - time
+                 for time in range(max(least, first), last + 1)}
     return min(lags) - calendar.changes(), max(lags) + calendar.changes()
 
 

@@ -181,6 +181,7 @@ def style_of(texts: Iterable[str], order: str | None, first: datetime.date | Non
     found: Counter[str] = Counter()
     for text in texts:
         plain = NAME.sub("", text.strip(), count=1)
-        found.update(form for form, pattern in (("iso", ISO), ("dots", DOTS), ("slashes", SLASHES)) if pattern.fullmatch(plain))
+        found.update(form for form, pattern in (("iso", ISO), ("dots", DOTS), ("slashes", SLASHES))
+                     if pattern.fullmatch(plain))
     form = found.most_common(1)[0][0] if found else "iso"
     return DateStyle((order or "iso") if form == "slashes" else form, None if first is None else first.year)

@@ -7,8 +7,8 @@ from .errors import Failed
 
 
 def extra(name: str, what: str, of_psmax: str = "") -> ModuleType:
-    """The package, or one line that says what needs it and how to get it: by its name, or by that of an extra of psmax. `plan`
-    starts without the packages of the machine, so these are added first."""
+    """The package, or one line that says what needs it and how to get it: by its name, or by that of an extra of psmax.
+    `plan` starts without the packages of the machine, so these are added first."""
     try:
         if sys.flags.no_site and name not in sys.modules:
             import site

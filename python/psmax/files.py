@@ -92,8 +92,8 @@ def must_be_short(called: str, data: bytes) -> None:
 
 
 def decode(data: bytes) -> str:
-    """By the byte order mark UTF-16, else UTF-8, else code page 1252, in which Excel for Windows writes CSV. UnicodeDecodeError
-    where a text is none of these."""
+    """By the byte order mark UTF-16, else UTF-8, else code page 1252, in which Excel for Windows writes CSV.
+    UnicodeDecodeError where a text is none of these."""
     if data.startswith((codecs.BOM_UTF16_LE, codecs.BOM_UTF16_BE)):
         return data.decode("utf-16")
     return data.decode(PAGE if is_in_code_page(data) else "utf-8-sig")
@@ -151,8 +151,8 @@ def must_be_writable(path: str) -> None:
 
 
 def write_whole(path: str, data: bytes) -> None:
-    """Writes a file beside it and renames that, so the file is never half written, also where the power fails. A file that is
-    replaced hands on its mode."""
+    """Writes a file beside it and renames that, so the file is never half written, also where the power fails. A file
+    that is replaced hands on its mode."""
     write_parts(path, [data])
 
 
@@ -169,9 +169,10 @@ def write_parts(path: str, parts: Iterable[bytes]) -> None:
 
 
 @contextmanager
-def file_beside(target: pathlib.Path, parts: Iterable[bytes], like: pathlib.Path | None = None) -> Iterator[pathlib.Path]:
-    """A file in the same folder, which the disk has, with the mode of the one that it replaces or is like. It is deleted,
-    unless it gets another name."""
+def file_beside(target: pathlib.Path, parts: Iterable[bytes],
+                like: pathlib.Path | None = None) -> Iterator[pathlib.Path]:
+    """A file in the same folder, which the disk has, with the mode of the one that it replaces or is like. It is
+    deleted, unless it gets another name."""
     with tempfile.NamedTemporaryFile(dir=target.parent, prefix=".plan-", delete=False) as file:
         made = pathlib.Path(file.name)
         try:
@@ -198,8 +199,8 @@ def rename_whole(made: str, path: str) -> None:
 
 
 def hand_on_mode(path: pathlib.Path, file: int) -> None:
-    """Gives a new file the mode of the one that it replaces, and its group. Where it can't have that group, the group may do
-    no more than everybody else may."""
+    """Gives a new file the mode of the one that it replaces, and its group. Where it can't have that group, the group
+    may do no more than everybody else may."""
     try:
         told = os.stat(path)
     except FileNotFoundError:
@@ -226,8 +227,8 @@ def keep_names(folder: pathlib.Path) -> None:
 
 
 def write_new(files: Mapping[str, bytes], like: str | None = None) -> bool:
-    """Writes each file whole where none of them is there, and otherwise nothing. Whether it did. They get the mode of the file
-    that they are like, so that nobody reads there what he may not read in that."""
+    """Writes each file whole where none of them is there, and otherwise nothing. Whether it did. They get the mode of
+    the file that they are like, so that nobody reads there what he may not read in that."""
     made: list[str] = []
     try:
         for path, data in files.items():

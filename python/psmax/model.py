@@ -76,7 +76,7 @@ class Lag:
     at_least: int | None = None
     at_most: int | None = None
     is_in_calendar_days: bool = False  # which go on over days off
-    shifts: tuple[int, ...] = ()  # when these begin, where `after` waits for the next one, as parts of what may pause do
+    shifts: tuple[int, ...] = ()  # when these begin, where `after` waits for the next one: in parts of what may pause
 
     @property
     def is_dated(self) -> bool:
@@ -202,7 +202,8 @@ class Parts:
         is_in_days = days != [None, None]
         if is_in_days:
             must_be_both(told, days)
-        low, high = days if is_in_days else [None if limit is None else length_of(limit, "a lag", self.calendar, -MOST_UNITS)
+        low, high = days if is_in_days else [None if limit is None
+                                             else length_of(limit, "a lag", self.calendar, -MOST_UNITS)
                                              for limit in told]
         made = Lag(before, after, low, high, is_in_days)
         self.dated(made)
@@ -270,7 +271,8 @@ class Parts:
         """What a field of a resource becomes. Where fewer are there than are away, nothing does."""
         if key != "capacity":
             raise AttributeError(f"the {key} of a resource stays as it is")
-        units, own = whole(value, f"the capacity of {one.name}"), [each for each in self.absences if each.resource is one]
+        units = whole(value, f"the capacity of {one.name}")
+        own = [each for each in self.absences if each.resource is one]
         must_be_enough([replace(each, away=units if each.away is None else each.away) for each in own], units)
         return units
 
@@ -339,8 +341,10 @@ class Parts:
         if goal is Goal.LATENESS:
             self._must_have_lateness()
         found = Numbers(
-            (0, *(one.duration for one in self.activities), 0), tuple(rows), tuple(one.capacity for one in self.resources),
-            tuple(arcs), tuple(Away(one.resource.number, one.begins, one.ends, one.units) for one in self.absences), due, goal,
+            (0, *(one.duration for one in self.activities), 0), tuple(rows),
+            tuple(one.capacity for one in self.resources),
+            tuple(arcs), tuple(Away(one.resource.number, one.begins, one.ends, one.units) for one in self.absences),
+            due, goal,
             tuple(one for lag in self.lags for one in self.dated(lag)))
         crews = self.crews()
         return found if crews is None else with_hours(found, crews, None)
@@ -363,7 +367,7 @@ def goal_of(minimize: str) -> Goal:
     try:
         return Goal(minimize)
     except ValueError:
-        raise BadInput(f"minimize {short(str(minimize))}: neither {' nor '.join(goal.value for goal in Goal)}") from None
+        raise BadInput(f"minimize {short(str(minimize))}: neither {' nor '.join(Goal)}") from None
 
 
 def without_number(told: dict[int, Told], gone: int) -> dict[int, Told]:

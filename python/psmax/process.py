@@ -19,12 +19,14 @@ CHUNK = 1 << 16  # bytes of one read
 
 
 def tied(words: Sequence[str]) -> list[str]:
-    """The words of a program that is killed when the thread ends that starts it, whatever ends that: `setpriv` of util-linux
-    asks the system for it. The shell sees to it that this was in time, since its parent is still this process."""
+    """The words of a program that is killed when the thread ends that starts it, whatever ends that: `setpriv` of
+    util-linux asks the system for it. The shell sees to it that this was in time, since its parent is still this
+    process."""
     setpriv = shutil.which("setpriv")
     if setpriv is None:
         return [*words]
-    return [setpriv, "--pdeathsig", "KILL", "--", "/bin/sh", "-c", 'test "$PPID" = "$0" && exec "$@"', f"{os.getpid()}", *words]
+    return [setpriv, "--pdeathsig", "KILL", "--", "/bin/sh", "-c", 'test "$PPID" = "$0" && exec "$@"', f"{os.getpid()}",
+            *words]
 
 
 class Process:

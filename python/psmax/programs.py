@@ -23,8 +23,8 @@ INSIDE = "bin"  # the folder of the programs in the package, where it was instal
 
 
 def find_program(name: str) -> str:
-    """What $PSMAX or $PSPROVE names, else the program inside an installed wheel, that of the repository, the one beside an
-    installed `plan`, or that of PATH."""
+    """What $PSMAX or $PSPROVE names, else the program inside an installed wheel, that of the repository, the one beside
+    an installed `plan`, or that of PATH."""
     named = os.environ.get(name.upper())
     if named:
         if shutil.which(named) is None:
@@ -105,8 +105,8 @@ class Program:
             return self.call([command, "--project", path], given, seconds)
 
     def verify(self, project: bytes, record: Given) -> tuple[int, str]:
-        """The exit status, and what the record proves of the project, or its first fault. A long one may take as long as the
-        search did."""
+        """The exit status, and what the record proves of the project, or its first fault. A long one may take as long
+        as the search did."""
         status, out = self.judge("verify", project, record, math.inf)
         return status, out.decode("utf-8", "replace").strip().removeprefix(f"{self.name}: ")
 

@@ -152,8 +152,8 @@ class Numbers:
 
 
 def with_order(project: Numbers, old: Mapping[int, int]) -> Numbers:
-    """The project in which activities that can't run at once, or that need the same and didn't run at once by old starts,
-    keep their order, the nearest first where the format has no room for all."""
+    """The project in which activities that can't run at once, or that need the same and didn't run at once by old
+    starts, keep their order, the nearest first where the format has no room for all."""
     arcs = [Arc(i, j, project.durations[i]) for i, j in combinations(sorted(old, key=old.__getitem__), 2)
             if any(map(min, project.demands[i], project.demands[j]))
             and (old[i] + project.durations[i] <= old[j] or are_rivals(project, i, j))]
@@ -176,8 +176,8 @@ def within(project: Numbers, deadline: int) -> Numbers | None:
 
 
 def parts(project: Numbers) -> list[Part]:
-    """Each resource, each absence, and each lag that is a greatest one. A lag of 0 after the end of a milestone is a least
-    one."""
+    """Each resource, each absence, and each lag that is a greatest one. A lag of 0 after the end of a milestone is a
+    least one."""
     lags = [place for place, (tail, head, lag) in enumerate(project.arcs) if tail != head
             and (lag < 0 or lag == 0 and (project.durations[tail] > 0 or tail == project.end))]
     return [*(Part(Kind.RESOURCE, k) for k in range(len(project.capacities))),
@@ -195,7 +195,8 @@ def without(project: Numbers, gone: Collection[Part]) -> Numbers:
     capacities = tuple(project.capacities[k] for k in kept)
     off = tuple(one._replace(resource=kept.index(one.resource)) for one in project.off if one.resource in kept)
     crews = frozenset(kept.index(k) for k in project.crews if k in kept)
-    return replace(with_arcs(project, arcs), demands=demands, capacities=capacities, absences=absences, off=off, crews=crews)
+    return replace(with_arcs(project, arcs), demands=demands, capacities=capacities, absences=absences, off=off,
+                   crews=crews)
 
 
 def with_lag(project: Numbers, place: int, lag: int) -> Numbers:
@@ -274,4 +275,5 @@ def leads(above: Callable[[int], Iterable[int]], first: int, last: int) -> bool:
 
 def least_end(project: Numbers, starts: Mapping[int, int]) -> int:
     """The least start of the end that the starts of the others leave."""
-    return max([starts[arc.tail] + arc.lag for arc in project.rules() if arc.head == project.end and arc.tail in starts])
+    return max([starts[arc.tail] + arc.lag for arc in project.rules() if arc.head == project.end
+                and arc.tail in starts])

@@ -172,11 +172,11 @@ class ProjectText:
         """The format has its limits, which absences and due dates come nearer to."""
         longest = max([abs(arc.lag) for arc in arcs] + [ends - begins for begins, ends in self.absences])
         if longest > MOST_UNITS:
-            raise BadInput(f"with absences and due dates a lag of {longest:,} is needed, and one has at most {MOST_UNITS:,}; "
-                           "choose longer periods, or give an absence a last day")
+            raise BadInput(f"with absences and due dates a lag of {longest:,} is needed, and one has at most "
+                           f"{MOST_UNITS:,}; choose longer periods, or give an absence a last day")
         if self.end - 1 > MOST_ACTIVITIES or len(arcs) > MOST_ARCS:
-            raise BadInput(f"with its absences the project has {self.end - 1:,} activities and {len(arcs):,} lags, and it has "
-                           f"at most {MOST_ACTIVITIES:,} and {MOST_ARCS:,}")
+            raise BadInput(f"with its absences the project has {self.end - 1:,} activities and {len(arcs):,} lags, and "
+                           f"it has at most {MOST_ACTIVITIES:,} and {MOST_ARCS:,}")
 
     def value(self, end: int) -> int:
         """What is minimized, where the text's end starts then. A makespan is never below 0."""

@@ -1,4 +1,5 @@
-"""What psmax says of a project: its least starts by the lags alone, whether starts are feasible, and what a search finds."""
+"""What psmax says of a project: its least starts by the lags alone, whether starts are feasible, and what a search
+finds."""
 import os
 import re
 import tempfile
@@ -23,8 +24,9 @@ class Judgement:
 
 
 class Breach(NamedTuple):
-    """A start of activity 0 that isn't 0; a lag that isn't kept, as its arc; one in calendar days, by its place; an overload: a
-    time, a resource, a use; or an activity that ends when the hours of a resource are not known any more."""
+    """A start of activity 0 that isn't 0; a lag that isn't kept, as its arc; one in calendar days, by its place; an
+    overload: a time, a resource, a use; or an activity that ends when the hours of a resource are not known any
+    more."""
 
     kind: str
     numbers: tuple[int, ...]
@@ -52,8 +54,8 @@ class Psmax(Program):
         return tuple(int(line.split()[1]) for line in out.splitlines()[1:]) or None
 
     def solve(self, project: Numbers, nodes: int, workers: int | None, start: tuple[int, ...] | None = None) -> Known:
-        """A search of so many nodes, until the clock is over, from starts that are feasible where there are some. Without
-        workers it goes depth first, and has neither a start nor a record."""
+        """A search of so many nodes, until the clock is over, from starts that are feasible where there are some.
+        Without workers it goes depth first, and has neither a start nor a record."""
         spelled, record = ProjectText(project), None if workers is None else new_file(self.folder)
         with tempfile.TemporaryDirectory(prefix="plan-") as own:
             first = os.path.join(own, "start")
@@ -70,8 +72,8 @@ class Psmax(Program):
                 raise self.odd("solve") from None
 
     def check(self, project: Numbers, starts: tuple[int, ...]) -> Judgement:
-        """What psmax says of the starts. Whatever is minimized, a schedule is feasible by its lags and resources. Lags in
-        calendar days are kept or not by their dates."""
+        """What psmax says of the starts. Whatever is minimized, a schedule is feasible by its lags and resources. Lags
+        in calendar days are kept or not by their dates."""
         if project.horizon is not None:
             known = self.check(replace(project, horizon=None), starts)
             late = [Breach("horizon", (activity,)) for activity in project.beyond(starts)]

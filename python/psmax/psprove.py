@@ -48,8 +48,9 @@ class Psprove(Program):
 
     def solve(self, project: Numbers, limits: Limits, start: tuple[int, ...] | None = None,
               hear: Hear = lambda told: None) -> Known:
-        """A search within limits, from starts that are feasible where there are some. Meanwhile what psprove's book holds is
-        heard. Where the clock stops, the answer is what it holds then. Lags in calendar days are searched by cases."""
+        """A search within limits, from starts that are feasible where there are some. Meanwhile what psprove's book
+        holds is heard. Where the clock stops, the answer is what it holds then. Lags in calendar days are searched by
+        cases."""
         if not project.dated:
             return self.search(project, limits, start, hear)
         begun, limits = self.clock.elapsed(), replace(limits, is_recorded=True)

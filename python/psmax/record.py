@@ -25,7 +25,8 @@ WRONG = 4  # the exit status of the programs for a record that is wrong
 
 @dataclass(frozen=True)
 class Proof:
-    """What a record proves: that no schedule has less than the bound, and perhaps that one has that, or that there is none."""
+    """What a record proves: that no schedule has less than the bound, and perhaps that one has that, or that there is
+    none."""
 
     says: str  # such as `proved optimal 6`, or `proved bound lateness 3`
     bound: int | None  # of what is minimized; none where there is no schedule

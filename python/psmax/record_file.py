@@ -16,7 +16,8 @@ class RecordFile:
     name."""
 
     def __init__(self, path: str, folder: str | None = None, is_flushed: bool = False) -> None:
-        """The folder is one of its own, which goes with it; where it is flushed, the disk knows then that it is gone."""
+        """The folder is one of its own, which goes with it; where it is flushed, the disk knows then that it is
+        gone."""
         self.path = path
         self.forget: Callable[[], object] = lambda: None
         if folder is not None:

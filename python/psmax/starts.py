@@ -112,8 +112,8 @@ def named_violation(asked: Question, starts: tuple[int, ...], one: Breach) -> Vi
     if one.kind == "dated":
         dated = numbers.dated[one.numbers[0]]
         first, last = dated.first, dated.last
-        text = (f"{names[last]} starts at {starts[last]}, and must start at {dated.limit(starts[first] + dated.base)} or "
-                f"{'later' if dated.is_least else 'sooner'}, since {names[first]} starts at {starts[first]}")
+        text = (f"{names[last]} starts at {starts[last]}, and must start at {dated.limit(starts[first] + dated.base)} "
+                f"or {'later' if dated.is_least else 'sooner'}, since {names[first]} starts at {starts[first]}")
         return Violation(ViolationKind.LAG, (asked.activities[first - 1], asked.activities[last - 1]), None, None, text)
     if one.kind == "horizon":
         late = asked.activities[one.numbers[0] - 1]

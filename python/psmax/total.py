@@ -1,5 +1,5 @@
-"""Total float: how much later than in a schedule an activity can start in some schedule that is no longer. psprove proves the
-latest start: it finds a schedule with that start, and proves that there is none with a later one."""
+"""Total float: how much later than in a schedule an activity can start in some schedule that is no longer. psprove
+proves the latest start: it finds a schedule with that start, and proves that there is none with a later one."""
 import os
 import threading
 from collections.abc import Callable, Collection
@@ -63,11 +63,12 @@ class TotalFloat:
     def __post_init__(self) -> None:
         for activity, most in self.by_lags().items():
             start = self.starts[activity]
-            self.found[activity] = Latest(start, start, max(start, most), self.starts, has_started=activity in self.started)
+            self.found[activity] = Latest(start, start, max(start, most), self.starts,
+                                          has_started=activity in self.started)
 
     def limited(self, arcs: tuple[Arc, ...] = ()) -> Numbers:
-        """The schedules that are no longer than this one. Their end waits for the same time, so each is a shortest one. Where
-        the lateness is minimized, no activity ends behind the last one of this schedule either."""
+        """The schedules that are no longer than this one. Their end waits for the same time, so each is a shortest one.
+        Where the lateness is minimized, no activity ends behind the last one of this schedule either."""
         end, starts, durations = self.project.end, self.starts, self.project.durations
         last = max([0, *self.project.ends(starts)])
         no_later = [Arc(i, 0, durations[i] - last) for i in range(1, end)] if self.project.goal is Goal.LATENESS else []
@@ -121,8 +122,8 @@ class TotalFloat:
         return {activity for activity, latest in self.found.items() if latest.is_critical}
 
     def write(self, folder: str) -> None:
-        """The project of all schedules that are no longer. For each activity one of them with the latest start that is known,
-        and the project that asks for a later start with the record that it has none."""
+        """The project of all schedules that are no longer. For each activity one of them with the latest start that is
+        known, and the project that asks for a later start with the record that it has none."""
         spelled = ProjectText(self.limited())
         files = {PROJECT: spelled.text}
         for activity, latest in self.found.items():

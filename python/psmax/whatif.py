@@ -1,5 +1,5 @@
-"""What changes of a project give: one unit more of a resource, one absence less, a maximum lag loosened or dropped. psprove
-proves each."""
+"""What changes of a project give: one unit more of a resource, one absence less, a maximum lag loosened or dropped.
+psprove proves each."""
 import math
 from collections.abc import Sequence
 from concurrent.futures import ThreadPoolExecutor
@@ -16,7 +16,8 @@ SHARE = 4  # the project as it is gets one of so many parts of the time
 
 
 class ChangeKind(StrEnum):
-    """One unit more of a resource, an absence that is dropped, a maximum lag that is longer by one period or dropped."""
+    """One unit more of a resource, an absence that is dropped, a maximum lag that is longer by one period or
+    dropped."""
 
     RESOURCE = "resource"
     ABSENCE = "absence"
@@ -75,7 +76,8 @@ def ask_each(projects: Sequence[Numbers], psprove: Psprove, jobs: int,
         return [*pool.map(ask, range(len(projects)))]
 
 
-def try_changes(project: Numbers, psprove: Psprove, jobs: int, changeable: int | None = None) -> tuple[Known, list[Outcome]]:
+def try_changes(project: Numbers, psprove: Psprove, jobs: int,
+                changeable: int | None = None) -> tuple[Known, list[Outcome]]:
     """What is known of the project as it is, which gets a share of the time, and of its changes, of which the one with
     the shortest schedule comes first."""
     clock = psprove.clock

@@ -127,7 +127,8 @@ def shift(text: str | None, minutes: int) -> tuple[tuple[int, int], ...]:
     odd = [part for part in parts if (part[1] - part[0]) % minutes]
     if odd:
         raise BadInput(f"shift {text}: a part of {odd[0][1] - odd[0][0]} minutes has no whole number of periods "
-                       f"of {minutes}; --period '{gcd(minutes, *(ends - begins for begins, ends in parts))} minutes' has")
+                       f"of {minutes}; --period '{gcd(minutes, *(ends - begins for begins, ends in parts))} minutes' "
+                       "has")
     return parts
 
 

@@ -59,7 +59,8 @@ class Solving(InFolder):
             self.assertEqual((answer.status, answer.makespan, answer.bound), (psmax.Status.OPTIMAL, 6, 6))
             self.assertEqual((answer[dig], answer["lift"].start), ((0, 3), 4))
             assert answer.record is not None and heard[-1].schedule is not None
-            self.assertEqual((f"{answer.record.verify()}", record.read_bytes()), ("proved optimal 6", answer.record.data))
+            self.assertEqual((f"{answer.record.verify()}", record.read_bytes()),
+                             ("proved optimal 6", answer.record.data))
             self.assertEqual((made.verify(record), made.verify(record.read_bytes()).bound), (answer.record.verify(), 6))
             self.assertEqual((heard[-1].is_proved, heard[-1].value, heard[-1].schedule["lift"]), (True, 6, (4, 6)))
             self.assertEqual(answer.to_dict()["starts"], {"dig": 0, "lift": 4})
@@ -165,7 +166,8 @@ class Solving(InFolder):
             (lambda: made.solve(proved_by="luck"), "proved_by luck: neither lemmas nor tree"),
             (lambda: made.solve(minimize="cost"), "minimize cost: neither makespan nor lateness"),
             (lambda: made.solve(minimize="lateness"), "nothing is due, so there is no lateness to minimize"),
-            (lambda: (made.absence(crew, 3, 9, 2), made.absence(crew, 5, 6, 3)), "5 of crew are away at 5, and there are 4"),
+            (lambda: (made.absence(crew, 3, 9, 2), made.absence(crew, 5, 6, 3)),
+             "5 of crew are away at 5, and there are 4"),
             (lambda: late().solve(minimize="lateness"), "with the lateness the project's end has no lags"),
             (lambda: made.absence(crew, 3, 3), "until when crew is away: 3 is not a whole number from 4"),
             (lambda: made.write(self.folder / "x.txt"), "x.txt: its suffix names no format; name one of json, mspdi"),

@@ -92,8 +92,8 @@ class Ends(InFolder):
             time.sleep(0.01)
 
     def test_python(self) -> None:
-        """By a request to end, by force, by two Ctrl-C, where a pool is left, where a task is cancelled, and by one Ctrl-C
-        where a search is listened to or awaited."""
+        """By a request to end, by force, by two Ctrl-C, where a pool is left, where a task is cancelled, and by one
+        Ctrl-C where a search is listened to or awaited."""
         kill, term, once = end(signal.SIGKILL), end(signal.SIGTERM), signal.SIGINT
         calls = (SOLVE, kill), (SOLVE, term), (SOLVE, end(once, once)), (VERIFY, kill), (POOL, wait), (TASK, wait), \
             (SEARCH, end(once)), (AWAITED, end(once)), (SEARCH, kill)

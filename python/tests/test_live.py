@@ -67,7 +67,8 @@ class Live(InFolder):
             psmax.Project.read(TWO).solve(10, 1, on_progress=self.heard.append)
         answer = caught.exception.answer
         assert isinstance(answer, psmax.Answer)
-        self.assertEqual((answer.status, answer.makespan, answer.bound, answer.record), (psmax.Status.FEASIBLE, 9, 6, None))
+        self.assertEqual((answer.status, answer.makespan, answer.bound, answer.record),
+                         (psmax.Status.FEASIBLE, 9, 6, None))
         self.assertEqual([(told.value, told.bound) for told in self.heard], [(None, 4), (12, 4), (9, 4), (9, 6)])
 
     def test_who_listens_fails(self) -> None:

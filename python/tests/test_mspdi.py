@@ -57,7 +57,8 @@ class Mspdi(InFolder):
         self.assertEqual(plan("write", planned, best, "--out", self.folder / "again.xml").returncode, 0)
         self.assertEqual((self.folder / "again.xml").read_text(), text)
         self.refused(plan("write", path, best, "--out", path), 2, "which would be lost")
-        self.refused(plan("write", path, best, "--out", self.file("own.xml", "mine")), 2, "own.xml is there, and no XML")
+        self.refused(plan("write", path, best, "--out", self.file("own.xml", "mine")), 2,
+                     "own.xml is there, and no XML")
 
     def test_a_delay(self) -> None:
         """What waits for a resource has a delay: paint on Tuesday, 19 hours behind Monday noon."""
@@ -76,7 +77,8 @@ class Mspdi(InFolder):
     def test_constraints(self) -> None:
         """Each kind, as a lag from the start of the project; the moment is one o'clock, where period 9 begins,
         behind the noon where period 8 ends."""
-        for kind, wanted in (("2", (9, 9, False)), ("3", (9, 9, True)), ("4", (9, None, False)), ("5", (None, 9, False)),
+        for kind, wanted in (("2", (9, 9, False)), ("3", (9, 9, True)), ("4", (9, None, False)),
+                             ("5", (None, 9, False)),
                              ("6", (10, None, True)), ("7", (None, 9, True))):
             text = HALL.replace("<ConstraintType>4</ConstraintType><ConstraintDate>2026-03-09T13",
                                 f"<ConstraintType>{kind}</ConstraintType><ConstraintDate>2026-03-09T13")
@@ -89,16 +91,20 @@ class Mspdi(InFolder):
         deep = "<Project>" + "<a>" * 100 + "</a>" * 100 + "</Project>\n"
         for text, wanted in (
             (LAUGHS, "the XML has a document type"), (deep, "more than 64 levels"),
-            ("<Project/>\n", "the project has no StartDate"), ("<Project xmlns='x'/>\n", "no project of Microsoft Project"),
+            ("<Project/>\n", "the project has no StartDate"),
+            ("<Project xmlns='x'/>\n", "no project of Microsoft Project"),
             (HALL.replace("<LagFormat>7", "<LagFormat>8"), "'cure': a lag in elapsed time or in percent"),
             (HALL.replace("<DurationFormat>7", "<DurationFormat>8"), "'dig': a duration in elapsed time"),
             (HALL.replace("<PredecessorUID>3", "<PredecessorUID>99"), "'cure': a link to 99, which is no task"),
-            (HALL.replace("<Name>paint</Name>", "<Name>paint</Name><CalendarUID>7</CalendarUID>"), "'paint': a calendar of"),
+            (HALL.replace("<Name>paint</Name>", "<Name>paint</Name><CalendarUID>7</CalendarUID>"),
+             "'paint': a calendar of"),
             (HALL.replace("<Name>inspection</Name><DayWorking>0", "<DayWorking>1"), "has an exception with work"),
             (HALL.replace("<Name>inspection</Name>", "<Type>2</Type>"), "has an exception that comes again and again"),
             (HALL.replace("<ToTime>17", "<ToTime>16", 1), "the days of the base calendar have different hours"),
-            (HALL.replace("<BaseCalendarUID>1<", f"{MONDAY_OFF}<BaseCalendarUID>1<"), "'dig': it takes longer than all"),
-            (HALL.replace("2026-03-20T17", "2926-03-20T17"), "'hand over': ConstraintDate is beyond the years 1900 to 2200"),
+            (HALL.replace("<BaseCalendarUID>1<", f"{MONDAY_OFF}<BaseCalendarUID>1<"),
+             "'dig': it takes longer than all"),
+            (HALL.replace("2026-03-20T17", "2926-03-20T17"),
+             "'hand over': ConstraintDate is beyond the years 1900 to 2200"),
             (HALL.replace("</Tasks>", "</Task>"), "line 96, column 5: no XML: mismatched tag"),
         ):
             with self.subTest(wanted), self.assertRaises(psmax.BadInput) as caught:
@@ -127,10 +133,14 @@ class Mspdi(InFolder):
         self.assertEqual(crane.read_text().count("BEGIN:VEVENT"), 2)
         bridge = DATA / "bridge.json"
         plan("solve", bridge, "--jobs", "1", "--out", self.folder / "bridge.csv")
-        self.assertEqual(plan("write", bridge, self.folder / "bridge.csv", "--out", self.folder / "b.ics").returncode, 0)
+        self.assertEqual(plan("write", bridge, self.folder / "bridge.csv", "--out", self.folder / "b.ics").returncode,
+                         0)
         self.assertIn("DTSTART;VALUE=DATE:20260318\r\nDTEND;VALUE=DATE:20260320\r\nSUMMARY:pave", (
             self.folder / "b.ics").read_bytes().decode())
         self.refused(plan("write", path, best, "--out", crane, "--resource", "lorry"), 2, "no resource 'lorry'")
-        self.refused(plan("write", path, best, "--resource", "crane"), 2, "--resource is for --daily, and for a calendar")
-        self.refused(plan("write", path, best, "--out", self.file("x.ics", "mine")), 2, "x.ics is there, and no calendar")
-        self.refused(plan("write", bridge, self.folder / "bridge.csv", "--out", self.folder / "b.xml"), 2, "no project of")
+        self.refused(plan("write", path, best, "--resource", "crane"), 2,
+                     "--resource is for --daily, and for a calendar")
+        self.refused(plan("write", path, best, "--out", self.file("x.ics", "mine")), 2,
+                     "x.ics is there, and no calendar")
+        self.refused(plan("write", bridge, self.folder / "bridge.csv", "--out", self.folder / "b.xml"), 2,
+                     "no project of")

@@ -26,7 +26,8 @@ def days(hours: dict[int, str]) -> str:
 def calendar(uid: int, more: str = "", base: int | None = None) -> str:
     """A base calendar, or one that is based on another."""
     is_base, base = int(base is None), -1 if base is None else base
-    return (f"<Calendar><UID>{uid}</UID><IsBaseCalendar>{is_base}</IsBaseCalendar><BaseCalendarUID>{base}</BaseCalendarUID>"
+    return (f"<Calendar><UID>{uid}</UID><IsBaseCalendar>{is_base}</IsBaseCalendar>"
+            f"<BaseCalendarUID>{base}</BaseCalendarUID>"
             f"{more}</Calendar>")
 
 
@@ -40,7 +41,8 @@ def summary(uid: int, name: str, level: int, more: str = "") -> str:
 
 
 def link(before: int, kind: int = 1, hours: int = 0) -> str:
-    return (f"<PredecessorLink><PredecessorUID>{before}</PredecessorUID><Type>{kind}</Type><LinkLag>{hours * 600}</LinkLag>"
+    return (f"<PredecessorLink><PredecessorUID>{before}</PredecessorUID><Type>{kind}</Type>"
+            f"<LinkLag>{hours * 600}</LinkLag>"
             "</PredecessorLink>")
 
 
@@ -57,14 +59,16 @@ def project(tasks: str, resources: str = "", calendars: str = "", assignments: s
             start: str = "2026-03-02T08:00:00", head: str = "") -> psmax.Project:
     return psmax.Project.read(
         f"<Project xmlns=\"http://schemas.microsoft.com/project\"><StartDate>{start}</StartDate>"
-        f"<CalendarUID>1</CalendarUID>{head}<Calendars>{calendars or calendar(1, week())}</Calendars><Tasks>{tasks}</Tasks>"
+        f"<CalendarUID>1</CalendarUID>{head}<Calendars>{calendars or calendar(1, week())}</Calendars>"
+        f"<Tasks>{tasks}</Tasks>"
         f"<Resources>{resources}</Resources><Assignments>{assignments}</Assignments></Project>\n")
 
 
 def lags(made: psmax.Project) -> set[tuple[str, str, str, str, int | None, int | None]]:
     """Each lag by the names and the sides of its ends."""
     sides = ("start", "end")
-    return {(lag.before.activity.name, sides[lag.before.is_end], lag.after.activity.name, sides[lag.after.is_end], lag.at_least,
+    return {(lag.before.activity.name, sides[lag.before.is_end], lag.after.activity.name, sides[lag.after.is_end],
+             lag.at_least,
              lag.at_most) for lag in made.lags}
 
 
@@ -81,9 +85,12 @@ class Meant(unittest.TestCase):
     def test_links_of_summaries(self) -> None:
         """To the start of each task below it, from the end of each."""
         frame = task(3, "columns", 2) + task(4, "beams", 2)
-        made = project(task(1, "dig", 1) + summary(2, "frame", 1, link(1, 1, 4)) + frame + task(5, "roof", 1, 8, link(2)))
-        self.assertEqual(lags(made), {("dig", "end", "columns", "start", 1, None), ("dig", "end", "beams", "start", 1, None),
-                                      ("columns", "end", "roof", "start", 0, None), ("beams", "end", "roof", "start", 0, None)})
+        made = project(task(1, "dig", 1) + summary(2, "frame", 1, link(1, 1, 4)) + frame
+                       + task(5, "roof", 1, 8, link(2)))
+        self.assertEqual(lags(made), {("dig", "end", "columns", "start", 1, None),
+                                      ("dig", "end", "beams", "start", 1, None),
+                                      ("columns", "end", "roof", "start", 0, None),
+                                      ("beams", "end", "roof", "start", 0, None)})
         made = project(task(1, "dig", 1) + summary(2, "frame", 1, link(1, 0)) + task(3, "columns", 2))
         self.assertEqual(lags(made), {("dig", "end", "columns", "end", 0, None)})
         made = project(summary(1, "ground", 1) + summary(2, "pit", 2) + task(3, "dig", 3) + task(4, "line", 2)
@@ -115,7 +122,8 @@ class Meant(unittest.TestCase):
         periods = there(2, "NA", "2026-03-04T12:00:00") + there(4, "2026-03-04T12:00:00", "2026-03-06T23:59:00") \
             + there(2, "2026-03-07T00:00:00", "2026-03-13T23:59:00")
         made = project(task(1, "dig", 1), resource(f"<AvailabilityPeriods>{periods}</AvailabilityPeriods>", 2))
-        self.assertEqual([(one.begins, one.ends, one.units) for one in made.absences], [(0, 5, 2), (10, 20, 2), (20, None, 4)])
+        self.assertEqual([(one.begins, one.ends, one.units) for one in made.absences],
+                         [(0, 5, 2), (10, 20, 2), (20, None, 4)])
         self.assertEqual(made.resources[0].capacity, 4)
         always = there(3, "1984-01-01T00:00:00", "2049-12-31T23:59:00")
         made = project(task(1, "dig", 1), resource(f"<AvailabilityPeriods>{always}</AvailabilityPeriods>", 3))
@@ -139,7 +147,8 @@ class Meant(unittest.TestCase):
         dates = "<Start>2026-03-03T13:00:00</Start><Finish>2026-03-09T12:00:00</Finish>"
         made = project(task(1, "dig", 1, None, dates) + task(2, "done", 1, None, "<Milestone>1</Milestone>"))
         self.assertEqual([one.duration for one in made.activities], [8, 0])
-        made = project(task(1, "dig", 1, None, "<Start>2026-03-06T17:00:00</Start><Finish>2026-03-11T17:00:00</Finish>"))
+        dates = "<Start>2026-03-06T17:00:00</Start><Finish>2026-03-11T17:00:00</Finish>"
+        made = project(task(1, "dig", 1, None, dates))
         self.assertEqual([one.duration for one in made.activities], [6])
         self.refused(("task 'dig': no Duration, and no Start and Finish that give one", "task 'pour': its Finish"),
                      task(1, "dig", 1, None) + task(2, "pour", 1, None, "<Start>2026-03-05T08:00:00</Start>"
@@ -184,11 +193,15 @@ class Meant(unittest.TestCase):
         [hours] = made.hours.values()
         self.assertEqual((hours.days, hours.spans, hours.text), ({0, 1, 2}, ((1080, 1800),), "mon,tue,wed 18:00-06:00"))
         self.assertEqual([(one.begins, one.ends) for one in made.numbers().off[:3]], [(0, 5), (11, 17), (23, 29)])
-        off = ("<Exceptions><Exception><TimePeriod><FromDate>2026-03-05T00:00:00</FromDate><ToDate>2026-03-05T23:59:00</ToDate>"
+        off = ("<Exceptions><Exception><TimePeriod><FromDate>2026-03-05T00:00:00</FromDate>"
+               "<ToDate>2026-03-05T23:59:00</ToDate>"
                "</TimePeriod><DayWorking>0</DayWorking></Exception></Exceptions>")
-        for length, week_of_crew, told in ((13, days(nights), "task 'weld': it takes longer than all that it needs is there"),
-                                           (1, days({2: late, 4: early}), "hours of its own: its days have different hours"),
-                                           (1, days(nights) + off, "hours of its own: other days off than the project's")):
+        for length, week_of_crew, told in ((13, days(nights),
+                                            "task 'weld': it takes longer than all that it needs is there"),
+                                           (1, days({2: late, 4: early}),
+                                            "hours of its own: its days have different hours"),
+                                           (1, days(nights) + off,
+                                            "hours of its own: other days off than the project's")):
             self.refused((told,), task(1, "weld", 1, length), crew, all_days + calendar(2, week_of_crew, 1), need)
 
     def test_the_field_of_maximum_lags(self) -> None:
@@ -221,7 +234,8 @@ class Meant(unittest.TestCase):
                      assignments=need.format(2) + need.format(99))
 
     def test_all_faults_at_once(self) -> None:
-        self.refused(("task 'dig': a duration in elapsed time", "task 'pour': a calendar of its own", "'pour': a link to 9",
+        self.refused(("task 'dig': a duration in elapsed time", "task 'pour': a calendar of its own",
+                      "'pour': a link to 9",
                       "task 'cure': Deadline is no date", "resource 'crew' has days or hours"),
                      task(1, "dig", 1, 8, "<DurationFormat>8</DurationFormat>")
                      + task(2, "pour", 1, 8, f"<CalendarUID>9</CalendarUID>{link(9)}")

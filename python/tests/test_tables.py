@@ -42,7 +42,8 @@ class CalendarDays(InFolder):
             with self.subTest(seed):
                 self.assertEqual(project.solve(20, 1).makespan, least, drawn.table())
                 if any(lag.shifts for lag in project.lags):
-                    with self.assertRaisesRegex(psmax.BadInput, "json has no parts tied to shifts that differ: '[abc] .1 of "):
+                    with self.assertRaisesRegex(psmax.BadInput,
+                                                "json has no parts tied to shifts that differ: '[abc] .1 of "):
                         project.to_dict()
 
     def test_by_hand(self) -> None:
@@ -80,7 +81,8 @@ class CalendarDays(InFolder):
             (lambda: dated.lag(one.end, other.start, at_least="2 cd", at_most=3), "in both of its limits, or in none"),
             (lambda: dated.lag(one.end, other.end, at_least="2 cd"), "from an activity to the start of another one"),
             (lambda: dated.lag(dated.start, other.start, at_least="2 cd"), "from an activity to the start of another"),
-            (lambda: dated.lag(other.start, dated.end, at_least="2 cd"), "from an activity to the start of another one"),
+            (lambda: dated.lag(other.start, dated.end, at_least="2 cd"),
+             "from an activity to the start of another one"),
         ]
         count = len(dated.lags)
         for call, wanted in wrong:
@@ -90,7 +92,8 @@ class CalendarDays(InFolder):
         dated.lag(one.end, other.start, at_least="2 cd")
         record = dated.solve(10, 1).record
         after: list[tuple[Callable[[], object], str]] = [
-            (lambda: dated.solve(10, 1, proved_by="tree"), "proved_by 'tree' is not for a project with lags in calendar"),
+            (lambda: dated.solve(10, 1, proved_by="tree"),
+             "proved_by 'tree' is not for a project with lags in calendar"),
             (lambda: dated.solve(10, 1, resume=record), "resume is not for a project with lags in calendar days"),
             (dated.earliest, "psmax knows no lags in calendar days"),
             (lambda: dated.text("mspdi"), "mspdi has no lags in calendar days: 'dig' and 'lift'"),

@@ -84,7 +84,8 @@ def must_have_no_links(folder: pathlib.Path) -> None:
     for entry in entries(folder):
         if entry.is_symlink():
             raise BadInput(f"{entry.path} is a link; nothing in a folder of cubes is one")
-        if not entry.is_file() and not (entry.is_dir() and pathlib.Path(entry.path) in (folder / CUBES, folder / INCOMING)):
+        is_own = entry.is_dir() and pathlib.Path(entry.path) in (folder / CUBES, folder / INCOMING)
+        if not entry.is_file() and not is_own:
             raise BadInput(f"{entry.path} is no ordinary file, as all in a folder of cubes are")
 
 

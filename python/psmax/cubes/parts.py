@@ -47,7 +47,8 @@ class RecordParts:
         self.all = {machines} if here is None else {machines, here}
         self.sha256, self.count = sha256_of(path), 1
         self.claim = claim_of(path)
-        self.task: Row = {"path": os.path.abspath(path), "project": zlib.compress(text), "sha256": self.sha256, "age": 0}
+        self.task: Row = {"path": os.path.abspath(path), "project": zlib.compress(text), "sha256": self.sha256,
+                          "age": 0}
         self.tries: Counter[tuple[Machines, int]] = Counter()
         self.rows: dict[int, Row] = {}  # of the machines
         self.own: dict[int, Row] = {}

@@ -234,7 +234,8 @@ class Driven(Tree):
                 self.write("aside", cube=name)
             elif bad and number not in self.damaged:
                 self.write("damaged", number=number)
-            yield from (f"cube {name or WHOLE}: {self.file(number, kind)} is damaged; it is searched again" for kind in bad)
+            yield from (f"cube {name or WHOLE}: {self.file(number, kind)} is damaged; it is searched again"
+                        for kind in bad)
 
     def is_damaged(self, number: int, kind: str) -> bool:
         return digest_of(self.file(number, kind)) != self.digests.get(number, {}).get(kind)

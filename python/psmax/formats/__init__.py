@@ -98,7 +98,8 @@ def must_be_readable(called: str, data: bytes) -> None:
     """A fault where a text is too long: psmax's own and those of planning tools may have so many bytes as psmax reads,
     others fewer."""
     if data.startswith(COMPOUND):
-        raise BadInput(f"{called}: a file of Microsoft Project (.mpp) or of an old Excel (.xls); save it as XML or as .xlsx")
+        raise BadInput(f"{called}: a file of Microsoft Project (.mpp) or of an old Excel (.xls); save it as XML or as "
+                       ".xlsx")
     begin = decoded(data[:10_000])
     if not any(one.is_like(begin) for one in (sch, mspdi_sign, xer_sign)):
         must_be_short(called, data)

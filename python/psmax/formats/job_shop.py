@@ -12,7 +12,8 @@ NAME, SUFFIX = "a job shop by lines", ".jsp"
 def is_like(text: str) -> bool:
     """The number of jobs and of machines, and then a line with two numbers for each machine."""
     lines = first_lines(own_lines(text))
-    return len(lines) == 2 and len(lines[0]) == 2 and all_numbers(" ".join(lines[0])) and len(lines[1]) == 2 * int(lines[0][1])
+    has_sizes = len(lines) == 2 and len(lines[0]) == 2 and all_numbers(" ".join(lines[0]))
+    return has_sizes and len(lines[1]) == 2 * int(lines[0][1])
 
 
 def own_lines(text: str) -> Iterator[tuple[int, str]]:
@@ -29,7 +30,8 @@ def read(text: str, project: Parts) -> None:
         row = []
         for place in range(1, machines + 1):
             called = f"of job {job}, operation {place}"
-            row.append(Operation(numbers.take(f"the machine {called}", 0, machines - 1), numbers.take(f"the time {called}")))
+            row.append(Operation(numbers.take(f"the machine {called}", 0, machines - 1),
+                                 numbers.take(f"the time {called}")))
         if len({step.machine for step in row}) < machines:
             raise BadInput(f"job {job} has two operations on one machine, and each machine has one of each job")
         shop.append(row)

@@ -54,7 +54,8 @@ def fill_from_object(project: Parts, value: object) -> None:
         read_lag(one, project)
     for one in objects(told, "absences", "an absence"):
         until, units = (integer(one[key], f"an absence's `{key}`") if key in one else None for key in ("to", "units"))
-        project.absence(find_resource(one["resource"], resources), integer(one["from"], "an absence's `from`"), until, units)
+        project.absence(find_resource(one["resource"], resources), integer(one["from"], "an absence's `from`"), until,
+                        units)
     project.status = integer(told["status"], "'status'") if "status" in told else None
     must_have_hours(project)
 
@@ -117,7 +118,8 @@ def read_activity(one: Object, project: Parts, resources: Mapping[str, Resource]
         raise BadInput("'demands' is no object")
     name = as_text(one["name"], "the name of an activity")
     project.activity(name, integer(one["duration"], f"the duration of {short(name)}"),
-                     {find_resource(key, resources): integer(units, f"the demand of {short(name)}") for key, units in needs.items()},
+                     {find_resource(key, resources): integer(units, f"the demand of {short(name)}") for key,
+                      units in needs.items()},
                      integer(one["due"], f"when {short(name)} is due") if "due" in one else None)
 
 
@@ -198,7 +200,8 @@ def to_dict(project: Parts) -> dict[str, object]:
                                     if project.calendar.holidays else {})
     told |= {"status": project.status} if project.status and project.hours else {}
     told["resources"] = [{"name": one.name, "capacity": one.capacity}
-                         | ({"hours": project.hours[one].text} if one in project.hours else {}) for one in project.resources]
+                         | ({"hours": project.hours[one].text} if one in project.hours else {})
+                         for one in project.resources]
     told["activities"] = [activity_object(one) for one in project.activities]
     told["lags"] = [lag_object(one, project) for one in project.lags]
     if project.absences:

@@ -88,7 +88,8 @@ class MspdiDocument(Gathering):
         lies before tasks that are scheduled by hand and before the start of the project."""
         marks = [mark for hours in self.crews.values() for mark in hours.marks()]
         lags = (abs(link.minutes) for link in [*self.links, *self.most])
-        return longest_period(self.first, self.hours[1], marks, [*self.durations.values(), *lags, *self.by_hand.values()])
+        return longest_period(self.first, self.hours[1], marks,
+                              [*self.durations.values(), *lags, *self.by_hand.values()])
 
     @cached_property
     def by_hand(self) -> dict[str, int]:
@@ -194,8 +195,8 @@ class MspdiDocument(Gathering):
         tails, heads = (self.outline.below.get(one, [one]) for one in (before, uid))
         if (len(tails) > 1 and not from_end) or (len(heads) > 1 and to_end):
             side = f"from the start of {self.called(before)}" if len(tails) > 1 and not from_end else "to its end"
-            raise BadInput(f"{self.called(uid)}: a link {side}, which is that of whichever task below it is first or last; "
-                           "link its tasks")
+            raise BadInput(f"{self.called(uid)}: a link {side}, which is that of whichever task below it is first or "
+                           "last; link its tasks")
         if {*tails} & {*heads}:
             raise BadInput(f"{self.called(uid)}: a link to itself, or between a summary and a task of its own")
         return [Link(tail, head, from_end, to_end, self.lag(uid, link)) for tail in tails for head in heads]
@@ -234,7 +235,8 @@ def read(text: str, project: Parts) -> None:
         needs.fill(project)
     due = due_dates(document)
     for uid in document.tasks:
-        project.activity(document.names[uid], document.durations[uid] // document.minutes, needs.of.get(uid), due.get(uid))
+        project.activity(document.names[uid], document.durations[uid] // document.minutes, needs.of.get(uid),
+                         due.get(uid))
     own = {uid: project[name] for uid, name in document.names.items()}
     for link in document.links:
         project.lag(*link.points(project, own), at_least=link.minutes // document.minutes)

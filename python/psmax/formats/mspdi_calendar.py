@@ -36,7 +36,8 @@ def base_calendar(project: Element) -> Element | None:
 
 
 def by_uid(project: Element, uid: str | None) -> Element | None:
-    return next((one for one in project.findall("Calendars/Calendar") if uid is not None and text_of(one, "UID") == uid), None)
+    return next((one for one in project.findall("Calendars/Calendar") if uid is not None
+                 and text_of(one, "UID") == uid), None)
 
 
 def is_base(calendar: Element) -> bool:
@@ -56,7 +57,8 @@ def is_like_project(project: Element, uid: str | None) -> bool:
     """Whether the calendar of this UID has the days, hours and days off of the project's. None is the project's."""
     own, base = by_uid(project, uid), base_calendar(project)
     try:
-        return own is None or (spans(project, own), free_days_of(project, own)) == (spans(project, base), free_days_of(project, base))
+        return own is None or (spans(project, own) == spans(project, base)
+                               and free_days_of(project, own) == free_days_of(project, base))
     except BadInput:
         return False
 
@@ -111,10 +113,12 @@ def free_days_of(project: Element, calendar: Element | None) -> tuple[datetime.d
         if text_of(one, "DayWorking") in ("1", "true"):
             raise BadInput("the base calendar has an exception with work, and all days with work are alike here")
         if text_of(one, "Type") not in (None, "1") or text_of(one, "Period") not in (None, "0", "1"):
-            raise BadInput("the base calendar has an exception that comes again and again; write each of its days as one")
+            raise BadInput("the base calendar has an exception that comes again and again; write each of its days as "
+                           "one")
         first, last = (day_of(text_of(one, f"TimePeriod/{name}")) for name in ("FromDate", "ToDate"))
         if not 0 <= (last - first).days <= MOST_HOLIDAYS - len(found):
-            raise BadInput(f"an exception of the base calendar from {first} to {last}, or more than {MOST_HOLIDAYS:,} days")
+            raise BadInput(f"an exception of the base calendar from {first} to {last}, or more than {MOST_HOLIDAYS:,} "
+                           "days")
         found |= {first + datetime.timedelta(days) for days in range((last - first).days + 1)}
     return tuple(sorted(found))
 
@@ -123,7 +127,8 @@ def day_of(text: str | None) -> datetime.date:
     try:
         return datetime.datetime.fromisoformat(text or "").date()
     except ValueError:
-        raise BadInput(f"a date of the base calendar is not such as 2026-04-03T00:00:00: '{short(text or '')}'") from None
+        told = short(text or "")
+        raise BadInput(f"a date of the base calendar is not such as 2026-04-03T00:00:00: '{told}'") from None
 
 
 def add_calendar(project: Element, workdays: str, shift: str, free: Collection[datetime.date]) -> Element:

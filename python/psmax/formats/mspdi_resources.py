@@ -139,7 +139,8 @@ def absences_from(stretches: Iterable[Stretch], most: Fraction, calendar: Calend
     moments = sorted({moment for begins, ends, _ in stretches for moment in (begins, ends) if moment is not None})
     lacks: list[Away] = []
     for begins, ends in zip([None, *moments], [*moments, None]):
-        there = sum((units for first, last, units in stretches if (first is None or begins is not None and first <= begins)
+        there = sum((units for first, last, units in stretches
+                     if (first is None or begins is not None and first <= begins)
                      and (last is None or ends is not None and ends <= last)), Fraction(0))
         time = 0 if begins is None else max(0, calendar.by(begins))
         lacks.append((time, None if ends is None else calendar.from_on(ends), most - there))
@@ -151,7 +152,8 @@ def without_overlap(lacks: list[Away]) -> list[Away]:
     times = sorted({time for begins, ends, _ in lacks for time in (begins, ends) if time is not None})
     found: list[Away] = []
     for begins, ends in zip(times, [*times[1:], None]):
-        away = max((units for first, last, units in lacks if first <= begins and (last is None or begins < last)), default=0)
+        away = max((units for first, last, units in lacks if first <= begins and (last is None or begins < last)),
+                   default=0)
         if away and found and found[-1][1] == begins and found[-1][2] == away:
             found[-1] = (found[-1][0], ends, found[-1][2])
         elif away:

@@ -19,8 +19,10 @@ from .tool_file import Dates, Gathering, dates_of, left_of
 from .xml_tree import parse_xml, put_child, text_of, written
 
 # Of what stands in a task; names between them are none that come before one of these.
-ORDER = ("Start", "Finish", "Duration", "ManualStart", "DurationFormat", "Work", "Milestone", "Summary", "PercentComplete",
-         "ActualStart", "RemainingDuration", "ConstraintType", "CalendarUID", "ConstraintDate", "Deadline", "LevelAssignments",
+ORDER = ("Start", "Finish", "Duration", "ManualStart", "DurationFormat", "Work", "Milestone", "Summary",
+         "PercentComplete",
+         "ActualStart", "RemainingDuration", "ConstraintType", "CalendarUID", "ConstraintDate", "Deadline",
+         "LevelAssignments",
          "LevelingCanSplit", "LevelingDelay", "LevelingDelayFormat", "PreLeveledStart", "PredecessorLink", "Baseline")
 DAYS, ELAPSED_DAYS = "7", "8"  # how lengths are shown
 # Of a constraint, by whether it is one of the end, has a least time and a greatest one.
@@ -129,7 +131,8 @@ def progress_texts(project: Parts, activity: Activity, dates: Dates) -> dict[str
     ends, left = begun + activity.duration, left_of(project, activity)
     share = PERCENT if not left else min(PERCENT - 1, PERCENT * (now - begun) // activity.duration)
     texts = {"PercentComplete": f"{share}", "ActualStart": stamp_text(dates.begins(begun))}
-    texts |= {} if left else {"ActualFinish": stamp_text(dates.ended(ends) if activity.duration else dates.begins(begun))}
+    texts |= {} if left else {"ActualFinish": stamp_text(dates.ended(ends) if activity.duration
+                                                         else dates.begins(begun))}
     return texts | {"RemainingDuration": duration_text(left * dates.minutes)}
 
 
@@ -192,14 +195,16 @@ def replanned(data: bytes, schedule: Schedule) -> bytes:
             soonest = max([0, *(starts[arc.tail] + arc.lag for arc in numbers.arcs if arc.head == number)])
             delay = document.calendar.begins(starts[number]) - document.calendar.begins(min(soonest, starts[number]))
             tenths = int(delay.total_seconds()) // 60 * TENTHS
-            for name, told in (("Start", stamp_text(begins)), ("Finish", stamp_text(ends)), ("LevelingDelay", f"{tenths}"),
+            for name, told in (("Start", stamp_text(begins)), ("Finish", stamp_text(ends)),
+                               ("LevelingDelay", f"{tenths}"),
                                ("LevelingDelayFormat", ELAPSED_DAYS)):
                 put_child(task, name, told, ORDER)
     around(root, document, times)
     return written(root).encode()
 
 
-def around(root: Element, document: MspdiDocument, times: dict[str, tuple[datetime.datetime, datetime.datetime]]) -> None:
+def around(root: Element, document: MspdiDocument,
+           times: dict[str, tuple[datetime.datetime, datetime.datetime]]) -> None:
     """The times of summaries, from those of what is below them, and of the project."""
     for uid, below in document.outline.below.items():
         inner = [times[one] for one in below]

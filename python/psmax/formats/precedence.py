@@ -42,8 +42,8 @@ def jobs_of(project: Parts, name: str) -> tuple[Numbers, Jobs]:
     for tail, head, lag in numbers.arcs:
         is_implied = tail == 0 and lag == 0 or head == last and lag == numbers.durations[tail]
         if not is_implied and (lag != numbers.durations[tail] or tail == last or head == 0):
-            raise BadInput(f"{name} has no maximum lags, and of minimum lags those alone after which an activity starts when "
-                           "another one ends; write this project as .sch or JSON")
+            raise BadInput(f"{name} has no maximum lags, and of minimum lags those alone after which an activity "
+                           "starts when another one ends; write this project as .sch or JSON")
         if 0 < tail and head < last and head not in successors[tail]:
             successors[tail].append(head)
     late = {head for heads in successors for head in heads}

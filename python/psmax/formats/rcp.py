@@ -10,7 +10,8 @@ NAME, SUFFIX = "Patterson's text", ".rcp"
 def is_like(text: str) -> bool:
     """The number of jobs and of resources, and then a line with the units of each."""
     lines = first_lines(lines_of(text))
-    return len(lines) == 2 and len(lines[0]) == 2 and all_numbers(" ".join(lines[0])) and len(lines[1]) == int(lines[0][1])
+    has_sizes = len(lines) == 2 and len(lines[0]) == 2 and all_numbers(" ".join(lines[0]))
+    return has_sizes and len(lines[1]) == int(lines[0][1])
 
 
 def read(text: str, project: Parts) -> None:

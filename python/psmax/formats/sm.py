@@ -10,8 +10,8 @@ from .precedence import MOST_JOBS, Jobs, jobs_of
 NAME, SUFFIX = "PSPLIB's single-mode text", ".sm"
 RULE = "*" * 72
 PRECEDENCES, REQUESTS, CAPACITIES = "PRECEDENCE RELATIONS", "REQUESTS/DURATIONS", "RESOURCEAVAILABILITIES"
-MODES = ("a multi-mode project (MRCPSP): one chooses how each activity is done, or uses up resources. psmax solves projects "
-         "with one mode for each activity")
+MODES = ("a multi-mode project (MRCPSP): one chooses how each activity is done, or uses up resources. psmax solves "
+         "projects with one mode for each activity")
 
 Lines = list[tuple[int, str]]
 

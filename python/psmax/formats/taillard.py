@@ -20,7 +20,8 @@ class Layout:
     is_open: bool
 
 
-JOB_SHOP = Layout("Nb of jobs, Nb of Machines, Time seed, Machine seed, Upper bound, Lower bound", "Times", "Machines", False)
+JOB_SHOP = Layout("Nb of jobs, Nb of Machines, Time seed, Machine seed, Upper bound, Lower bound", "Times", "Machines",
+                  False)
 OPEN_SHOP = Layout("number of jobs, number of machines, time seed, machine seed, upper bound, lower bound :",
                    "processing times :", "machines :", True)
 

@@ -61,7 +61,8 @@ def read_calendar(calendars: Mapping[str, Row], uid: str, first: datetime.date) 
     own = calendars[uid]
     called = f"calendar '{short(cell_of(own, 'clndr_name'))}'"
     lists = read_lists(cell_of(own, "clndr_data"), called)
-    week = {(int(one.name) - SUNDAY - 1) % WEEK: spans_of(one.inner, called) for one in entries_below(lists, "DaysOfWeek")
+    week = {(int(one.name) - SUNDAY - 1) % WEEK: spans_of(one.inner, called)
+            for one in entries_below(lists, "DaysOfWeek")
             if re.fullmatch("[1-7]", one.name)}
     others = dict[datetime.date, Spans]()
     for row in base_first(calendars, uid):
@@ -151,7 +152,8 @@ def calendar_data(workdays: str, shift: str, free: Collection[datetime.date]) ->
 
 def data_of(week: Sequence[Sequence[Span]], free: Collection[datetime.date]) -> str:
     """The same by the hours of Monday to Sunday."""
-    days = "".join(f"(0||{day}()({spans_text(week[(day - SUNDAY - 1) % WEEK])}))" for day in range(SUNDAY, SUNDAY + WEEK))
+    days = "".join(f"(0||{day}()({spans_text(week[(day - SUNDAY - 1) % WEEK])}))"
+                   for day in range(SUNDAY, SUNDAY + WEEK))
     off = "".join(f"(0||{place}(d|{(day - ZERO).days})())" for place, day in enumerate(sorted(free)))
     return f"(0||CalendarData()((0||DaysOfWeek()({days}))(0||Exceptions()({off}))))"
 

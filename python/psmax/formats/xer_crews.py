@@ -17,7 +17,8 @@ MOST_ASSIGNED = 1_000  # resources of which it is looked whether they are needed
 
 def resources_of(document: XerDocument) -> dict[str, Row]:
     """All that are no material."""
-    return {cell_of(row, "rsrc_id"): row for row in document.tables.get("RSRC", []) if cell_of(row, "rsrc_type") != MATERIAL}
+    return {cell_of(row, "rsrc_id"): row for row in document.tables.get("RSRC", [])
+            if cell_of(row, "rsrc_type") != MATERIAL}
 
 
 def call_resource(resource: Row) -> str:

@@ -223,7 +223,8 @@ class XerDocument(Gathering):
     def period(self, dates: list[datetime.datetime], marks: set[int]) -> int:
         """By all lengths, by the work before these dates, and by these minutes of the day, at which hours of resources
         change."""
-        lengths = [*self.remaining.values(), *(abs(link.minutes) for link in self.links), *map(self.clock.from_on, dates)]
+        lengths = [*self.remaining.values(), *(abs(link.minutes) for link in self.links),
+                   *map(self.clock.from_on, dates)]
         return longest_period(self.first, self.plain[1], marks, lengths)
 
     def must_count_lags(self) -> None:

@@ -104,7 +104,8 @@ class Actuals:
         whole = read_date(document.project, "plan_end_date", "the project")
         for uid, row in document.activities.items():
             with document.kept():
-                told = [one for one in (whole, read_date(row, "external_late_end_date", called(row))) if one is not None]
+                told = [one for one in (whole, read_date(row, "external_late_end_date", called(row)))
+                        if one is not None]
                 time = self.calendar.by(min(told)) if told else None
                 if time is not None and time < 0:
                     raise BadInput(f"{called(row)}: it is due at {min(told)}, before the project starts")

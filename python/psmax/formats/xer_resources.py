@@ -37,7 +37,8 @@ class ActivityNeeds:
         scale = next((one for one in SCALES if all((count * one).denominator == 1 for count in counts)), None)
         if scale is None:
             raise BadInput("units by time have more than four digits behind the point")
-        names = {uid: printable(cell_of(known[uid], "rsrc_name") or cell_of(known[uid], "rsrc_short_name") or f"resource {uid}")
+        names = {uid: printable(cell_of(known[uid], "rsrc_name") or cell_of(known[uid], "rsrc_short_name")
+                                or f"resource {uid}")
                  for uid in used}
         self.of = needs_of(add_resources(project, names, there, scale, self.calendar, self.hours), wanted, scale)
 
@@ -56,8 +57,8 @@ class ActivityNeeds:
         needed = {resource for _, resource, _ in found}
         for task, resource in spanning:
             if resource in needed:
-                document.faults.append(f"{called(document.spanning[task])}: it needs {call_resource(known[resource])} as long "
-                                       "as others take, and activities here have a duration of their own")
+                document.faults.append(f"{called(document.spanning[task])}: it needs {call_resource(known[resource])} "
+                                       "as long as others take, and activities here have a duration of their own")
         return found
 
     def units(self, task: str, resource: Row, row: Row) -> Fraction:
@@ -82,7 +83,8 @@ class ActivityNeeds:
     def there(self, uid: str, resource: Row) -> list[Stretch]:
         """How many units there are when. The first that are told were there before too."""
         called, rates = call_resource(resource), self.document.tables.get("RSRCRATE", [])
-        rows = sorted((row for row in rates if cell_of(row, "rsrc_id") == uid), key=lambda row: cell_of(row, "start_date"))
+        rows = sorted((row for row in rates if cell_of(row, "rsrc_id") == uid),
+                      key=lambda row: cell_of(row, "start_date"))
         told = [(read_date(row, "start_date", called), number_in(row, "max_qty_per_hr", called)) for row in rows]
         told = told or [(None, number_in(resource, "max_qty_per_hr", called))]
         if any(count is None or count < 0 for _, count in told):

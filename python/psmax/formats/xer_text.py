@@ -41,11 +41,13 @@ def write(project: Parts) -> str:
     used = [one for one in project.resources if any(activity.demands.get(one) for activity in project.activities)]
     tables: dict[str, list[Cells]] = {
         "CALENDAR": calendars(project, dates),
-        "PROJECT": [{"proj_id": 1, "proj_short_name": "PLAN", "export_flag": "Y", "clndr_id": PLAN, "plan_start_date": first,
+        "PROJECT": [{"proj_id": 1, "proj_short_name": "PLAN", "export_flag": "Y", "clndr_id": PLAN,
+                     "plan_start_date": first,
                      "last_recalc_date": minute_text(dates.begins(project.status or 0)),
                      "plan_end_date": "" if ends is None else minute_text(dates.ended(ends))}],
         "PROJWBS": breakdown(project),
-        "RSRC": [{"rsrc_id": one.number + 1, "clndr_id": calendar_id(project, one), "rsrc_short_name": f"R{one.number + 1}",
+        "RSRC": [{"rsrc_id": one.number + 1, "clndr_id": calendar_id(project, one),
+                  "rsrc_short_name": f"R{one.number + 1}",
                   "rsrc_name": one.name, "rsrc_type": "RT_Labor"} for one in used],
         "RSRCRATE": [{"rsrc_rate_id": one.number + 1, "rsrc_id": one.number + 1, "max_qty_per_hr": one.capacity,
                       "start_date": first} for one in used],
@@ -81,9 +83,11 @@ def in_hours(minutes: float) -> str:
 def calendars(project: Parts, dates: Dates) -> list[Cells]:
     """That of the activities, and those of resources with hours of their own, which have its days off."""
     time, workdays = dates.time, dates.time.workdays or "mon-sun"
+    data = calendar_data(workdays, time.shift or "", time.free_days)
     found: list[Cells] = [{"clndr_id": PLAN, "default_flag": "Y", "clndr_name": "Plan", "base_clndr_id": "",
-                           "clndr_type": "CA_Base", "clndr_data": calendar_data(workdays, time.shift or "", time.free_days)}]
-    return found + [{"clndr_id": calendar_id(project, one), "default_flag": "N", "clndr_name": one.name, "base_clndr_id": PLAN,
+                           "clndr_type": "CA_Base", "clndr_data": data}]
+    return found + [{"clndr_id": calendar_id(project, one), "default_flag": "N", "clndr_name": one.name,
+                     "base_clndr_id": PLAN,
                      "clndr_type": "CA_Rsrc", "clndr_data": data_of(by_day(own, read_workdays(workdays)), ())}
                     for one, own in project.hours.items()]
 
@@ -94,7 +98,8 @@ def calendar_id(project: Parts, resource: Resource) -> int:
 
 def breakdown(project: Parts) -> list[Cells]:
     """The project, and its groups as they stand in each other."""
-    found: list[Cells] = [{"wbs_id": TOP, "proj_id": 1, "parent_wbs_id": "", "proj_node_flag": "Y", "wbs_short_name": "PLAN",
+    found: list[Cells] = [{"wbs_id": TOP, "proj_id": 1, "parent_wbs_id": "", "proj_node_flag": "Y",
+                           "wbs_short_name": "PLAN",
                            "wbs_name": project.name}]
     for place, one in enumerate(project.groups):
         around = next((TOP + 1 + other for other in range(place - 1, -1, -1)
@@ -114,8 +119,10 @@ def task(project: Parts, activity: Activity, limits: Iterable[Lag], dates: Dates
     status, begins, ends, left = progress_of(project, activity, dates)
     return {"task_id": activity.number, "proj_id": 1, "wbs_id": TOP + 1 + group, "clndr_id": PLAN,
             "task_code": project.ids.get(activity.number) or f"A{10 * activity.number:05}", "task_name": activity.name,
-            "task_type": "TT_Mile" if not activity.duration else DEPENDS if depends else "TT_Task", "status_code": status,
-            "target_drtn_hr_cnt": in_hours(activity.duration * dates.minutes), "remain_drtn_hr_cnt": in_hours(left * dates.minutes),
+            "task_type": "TT_Mile" if not activity.duration else DEPENDS if depends else "TT_Task",
+            "status_code": status,
+            "target_drtn_hr_cnt": in_hours(activity.duration * dates.minutes),
+            "remain_drtn_hr_cnt": in_hours(left * dates.minutes),
             "cstr_type": kind, "cstr_date": date, "cstr_type2": second_kind, "cstr_date2": second_date,
             "act_start_date": begins, "act_end_date": ends, "early_start_date": "", "early_end_date": "",
             "target_start_date": "", "target_end_date": ""}

@@ -23,7 +23,8 @@ class Limited(TreeBuilder):
         self.depth, self.count, self.length = self.depth + 1, self.count + 1, 0
         self.names.update((tag, *attributes))
         if self.depth > DEEPEST or self.count > MOST or len(self.names) > MOST_NAMES:
-            raise BadInput(f"the XML has more than {DEEPEST} levels, {MOST:,} elements or {MOST_NAMES:,} names of elements")
+            raise BadInput(f"the XML has more than {DEEPEST} levels, {MOST:,} elements or {MOST_NAMES:,} names of "
+                           "elements")
         self.start(tag, attributes)
 
     def finish(self, tag: str) -> None:

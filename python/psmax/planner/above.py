@@ -16,7 +16,8 @@ from .settings import FILES, Settings, checked, from_rows, names_file
 
 WORDS = {word: name for name, words in (  # what a setting is called, and how rows spell it
     ("title", "title, project, titel, projekt"),
-    ("from", "from, start, start date, project start, ab, von, beginn, start des projekts, projektbeginn, projektstart"),
+    ("from", "from, start, start date, project start, ab, von, beginn, start des projekts, projektbeginn, "
+             "projektstart"),
     ("period", "period, periode"),
     ("workdays", "workdays, work days, working days, arbeitstage, werktage"),
     ("holidays", "holidays, public holidays, feiertage"),
@@ -138,4 +139,5 @@ CHECKS: Mapping[str, Callable[[str, str | None], object]] = {
     "from": read_moment, "status": must_be_time, "horizon": must_be_time,
     "workdays": lambda text, *_: read_workdays(text), "shift": lambda text, *_: read_shift(text),
     "period": lambda text, *_: must_be_period(text), "zone": lambda text, *_: zone(text),
-    "dates": lambda text, *_: checked(Settings(dates=text)), "minimize": lambda text, *_: checked(Settings(minimize=text))}
+    "dates": lambda text, *_: checked(Settings(dates=text)), "minimize": lambda text,
+    *_: checked(Settings(minimize=text))}

@@ -15,7 +15,8 @@ from .names import Names
 from .rows import Row, Terms, is_reversed
 
 HEAD = {word: head for head, words in (  # in English, then in German
-    ("resource", "resource ressource"), ("from", "from von ab"), ("to", "to until bis"), ("units", "units einheiten anzahl"),
+    ("resource", "resource ressource"), ("from", "from von ab"), ("to", "to until bis"),
+    ("units", "units einheiten anzahl"),
 ) for word in words.split()}
 
 
@@ -31,7 +32,8 @@ def read_absences(path: str, project: Numbers, names: Names, terms: Terms) -> li
     for place, head in enumerate(heads):
         with faults.kept():
             if head and head not in HEAD.values() and HEADS.get(head) is not Column.NOTE:
-                raise fault_at(path, sheet.head_row, place, head, "not a column of absences, which are resource, from, to, "
+                raise fault_at(path, sheet.head_row, place, head,
+                               "not a column of absences, which are resource, from, to, "
                                "units and notes")
             if head in heads[:place] and head in HEAD.values():
                 raise fault_at(path, sheet.head_row, place, sheet.heads[place], f"a second column '{short(head)}'")
@@ -42,7 +44,8 @@ def read_absences(path: str, project: Numbers, names: Names, terms: Terms) -> li
         row = Row(replace(terms, file=path, columns=columns), number, cells)
         with faults.kept():
             row.must_be_below_heads()
-            one = read_absence(row, {head: cell(cells, place) for head, place in places.items()}, places, project, names)
+            one = read_absence(row, {head: cell(cells, place) for head, place in places.items()}, places, project,
+                               names)
             found += [one] if one.ends is None or one.begins < one.ends else []
             must_be_there(row, places["resource"], project, names, found)
     faults.tell()
@@ -59,7 +62,8 @@ def must_be_titles(path: str, sheet: Sheet, faults: Faults) -> None:
         place = next((place for place, text in enumerate(row) if text), 0)
         with faults.kept():
             if any(row) and not row[place].startswith(NOTE) and WORDS.get(row[place].lower()) != "title":
-                raise fault_at(path, number, place, "", f"'{short(row[place])}' stands above the columns; write a title behind "
+                raise fault_at(path, number, place, "",
+                               f"'{short(row[place])}' stands above the columns; write a title behind "
                                f"'title', and a note for people behind '{NOTE}'")
 
 
@@ -97,5 +101,5 @@ def must_be_there(row: Row, place: int, project: Numbers, names: Names, found: l
         for time in sorted({one.begins for one in others}):
             away = sum(one.units for one in others if one.begins <= time and (one.ends is None or time < one.ends))
             if away > project.capacities[last.resource]:
-                raise row.fault(place, f"with the rows above {away} of {short(names.resources[last.resource])} are away at "
-                                f"{time}, and there are {project.capacities[last.resource]}")
+                raise row.fault(place, f"with the rows above {away} of {short(names.resources[last.resource])} are "
+                                f"away at {time}, and there are {project.capacities[last.resource]}")

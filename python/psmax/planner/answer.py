@@ -104,7 +104,8 @@ def tie(opened: ProjectFile, given: AnswerText) -> Tied:
         known = inner if given.is_table else range(project.end + 1)
         gone = {number: f"activity {number}" for number in given.starts if number not in known}
     starts = {0: time(opened, 0, given.starts[0], given) if 0 in given.starts else 0}
-    starts |= {pairs[was]: time(opened, pairs[was], begin, given) for was, begin in given.starts.items() if was in pairs}
+    starts |= {pairs[was]: time(opened, pairs[was], begin, given) for was,
+               begin in given.starts.items() if was in pairs}
     starts[project.end] = read_end(opened, given, starts)
     return Tied(starts, [number for number in inner if number not in starts], gone, pairs)
 
@@ -123,11 +124,12 @@ def by_number(opened: ProjectFile, given: AnswerText) -> None:
     is_whole = sorted(given.starts) == [*range(numbers.start, numbers.start + len(given.starts))]
     if is_whole and len(given.starts) != len(numbers):
         raise BadInput(f"{given.called}: starts of {len(given.starts)} activities, and {opened.path} has {len(numbers)}"
-                       f"{'' if given.is_table else ' with its start and end'}; without names nobody can say which they are")
+                       f"{'' if given.is_table else ' with its start and end'}; without names nobody can say which "
+                       "they are")
     if opened.table is not None and os.path.isfile(given.called):
         if os.stat(given.called).st_mtime < os.stat(opened.path).st_mtime:
-            text = f"{given.called} has no names and is older than {opened.path}: its activities are taken by their numbers"
-            print("plan: " + printable(text), file=sys.stderr)
+            text = f"{given.called} has no names and is older than {opened.path}: its activities are taken by their"
+            print(f"plan: {printable(text)} numbers", file=sys.stderr)
 
 
 def time(opened: ProjectFile, activity: int, begin: Begin, given: AnswerText) -> int:
@@ -135,7 +137,8 @@ def time(opened: ProjectFile, activity: int, begin: Begin, given: AnswerText) ->
     if not begin.date:
         return begin.period or 0
     if opened.calendar is None:
-        raise BadInput(f"{begin.place}: '{short(begin.date)}' is a date, and nothing says when the project begins; --from does")
+        raise BadInput(f"{begin.place}: '{short(begin.date)}' is a date, and nothing says when the project begins; "
+                       "--from does")
     try:
         moment = read_moment(begin.date, opened.settings.dates)
     except ValueError as fault:

@@ -140,8 +140,8 @@ def sentence(text: str, called: str) -> str:
     if no_answer:
         raise BadInput(f"{called}: The answer is `{short(first)}`: {no_answer}.")
     if first.startswith(WITH_STARTS) and not rest:
-        raise BadInput(f"{called}: The answer is `{short(first)}`: there are no starts below it, so there is no schedule to "
-                       "show.")
+        raise BadInput(f"{called}: The answer is `{short(first)}`: there are no starts below it, so there is no "
+                       "schedule to show.")
     meaning = next((meaning for begin, meaning in WITHOUT.items() if first.startswith(begin)), "")
     return meaning and f"The answer is `{short(first)}`: {meaning}."
 
@@ -230,8 +230,8 @@ def period_of(sheet: Sheet, called: str, columns: dict[str, int]) -> str:
     for number, row in sheet.numbered():
         text = cell(row, columns.get(PERIOD))
         if text and first and text != first:
-            raise BadInput(f"{called}: row {number}, column {letters(columns[PERIOD])} ({PERIOD}): '{short(text)}', and above "
-                           f"'{short(first)}'; all starts of an answer count the same")
+            raise BadInput(f"{called}: row {number}, column {letters(columns[PERIOD])} ({PERIOD}): '{short(text)}', "
+                           f"and above '{short(first)}'; all starts of an answer count the same")
         first = first or text
     return first
 

@@ -37,7 +37,8 @@ class ProgressBar:
         self.show("")
         return self
 
-    def __exit__(self, kind: type[BaseException] | None, fault: BaseException | None, trace: TracebackType | None) -> None:
+    def __exit__(self, kind: type[BaseException] | None, fault: BaseException | None,
+                 trace: TracebackType | None) -> None:
         if self.is_shown:
             print(file=sys.stderr, flush=True)
 
@@ -153,7 +154,8 @@ def search_all(wanted: Batch, left: Sequence[Task], clock: Clock) -> Rows:
 def outputs(task: Task, wanted: Batch) -> list[tuple[str, str]]:
     """The files that a search writes, each behind its option."""
     folders = ("--out", wanted.out, ".starts"), ("--record", wanted.record, ".rec")
-    return [(option, os.path.join(folder, task.stem + suffix)) for option, folder, suffix in folders if folder is not None]
+    return [(option, os.path.join(folder, task.stem + suffix)) for option, folder,
+            suffix in folders if folder is not None]
 
 
 def search_row(task: Task, wanted: Batch, clock: Clock) -> Row | None:
@@ -180,8 +182,10 @@ def begin_solve(words: Sequence[str]) -> subprocess.Popen[bytes]:
     """`plan solve` as a process of its own, which ends with this one. It starts soon without the machine's packages
     (-S)."""
     home = {"PYTHONPATH": str(pathlib.Path(__file__).resolve().parents[2])}
-    return subprocess.Popen(tied([sys.executable, "-S", "-m", "psmax.planner", "solve", *words]), stdin=subprocess.DEVNULL,
-                            stdout=subprocess.PIPE, stderr=subprocess.PIPE, env={**os.environ, **home}, start_new_session=True)
+    return subprocess.Popen(tied([sys.executable, "-S", "-m", "psmax.planner", "solve", *words]),
+                            stdin=subprocess.DEVNULL,
+                            stdout=subprocess.PIPE, stderr=subprocess.PIPE, env={**os.environ, **home},
+                            start_new_session=True)
 
 
 def wait_for_answer(child: subprocess.Popen[bytes], clock: Clock) -> tuple[str, str] | None:

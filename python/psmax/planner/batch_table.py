@@ -12,7 +12,8 @@ from ..letters import short
 from .csv_text import cell, read_sheet, write_sheet
 from .write import put_text
 
-HEADS = ["project", "activities", "status", "makespan", "ends", "bound", "seconds", "conflicts", "limit", "plan", "psprove",
+HEADS = ["project", "activities", "status", "makespan", "ends", "bound", "seconds", "conflicts", "limit", "plan",
+         "psprove",
          "fault"]
 WITHOUT_ENDS = [head for head in HEADS if head != "ends"]  # of plan 1.0 and before
 PUBLISHED_HEADS = ("project", "lower", "upper")
@@ -75,7 +76,8 @@ def read_published(path: str) -> dict[str, Published]:
     heads = [head.strip().lower() for head in sheet.heads]
     missing = [head for head in PUBLISHED_HEADS if head not in heads]
     if missing:
-        raise BadInput(f"{path}: no column '{missing[0]}'; a table of published bounds has {', '.join(PUBLISHED_HEADS)}")
+        raise BadInput(f"{path}: no column '{missing[0]}'; a table of published bounds has "
+                       f"{', '.join(PUBLISHED_HEADS)}")
     found = {}
     for number, row in sheet.numbered():
         name, *bounds = (cell(row, heads.index(head)).strip() for head in PUBLISHED_HEADS)

@@ -73,8 +73,8 @@ def go_on(opened: ProjectFile, given: AnswerText) -> Beginning:
     """From a plan of the project before it was changed: what of it still holds, and what does not, is told."""
     found, count = begin_near(opened, given, None), opened.project.end - 1
     there = len(tie(opened, counted(opened, given)).pairs)
-    told = [f"{given.called} is a plan of {opened.path} before it was changed: the search begins near to it, with {there} of "
-            f"{count} activities"]
+    told = [f"{given.called} is a plan of {opened.path} before it was changed: the search begins near to it, with "
+            f"{there} of {count} activities"]
     if opened.progress.now is None:
         told.append("what has started by a day stays with a status date in the table, or with "
                     f"--start {given.called} --frozen DAY and another --out")
@@ -98,7 +98,8 @@ def from_old(opened: ProjectFile, given: AnswerText, tied: Tied, progress: Stand
         raise BadInput(f"--frozen: the project has {len(project.arcs):,} lags, which leaves too few of {MOST_ARCS:,}")
     old = {i: start for i, start in tied.starts.items() if 0 < i < project.end and i not in progress.started}
     where = given.called if opened.progress.now is None else opened.path
-    told = [f"{len(progress.started)} of {project.end - 1} activities start before {day} in {where}, and stay"] if day else []
+    stay = f"{len(progress.started)} of {project.end - 1} activities start before {day} in {where}, and stay"
+    told = [stay] if day else []
     told += [f"{words.names.activity(i)} is new" for i in tied.new]
     told += [f"{name} is no activity any more" + (", and had started" if (given.starts[i].period or 0) < now else "")
              for i, name in tied.gone.items()]
@@ -118,6 +119,7 @@ def must_be_possible(opened: ProjectFile, called: str, started: dict[int, int]) 
     project, of_lags = opened.project, Words(opened)
     starts = [started.get(i, 0) for i in range(project.end + 1)]
     of_resources = Words(replace(opened, project=alone(project, started)))
-    told = [(of_lags if one.kind == "lag" else of_resources).violation(one, starts) for one in broken_alone(project, started)]
+    told = [(of_lags if one.kind == "lag" else of_resources).violation(one, starts)
+            for one in broken_alone(project, started)]
     if told:
         raise BadInput(*at_most([f"{called}: has started, but {fault}" for fault in told]))

@@ -73,7 +73,8 @@ HEADS = {head: column for column, heads in (  # in English, then in German
 ELSEWHERE = {head: instead for heads, instead in (  # what tables say in other columns, where it would not be read
     ("resource, resources, resource names, ressource, ressourcen, ressourcennamen",
      "each resource has a column of its own, with its capacity, as in 'crew (5)'"),
-    ("status", "how far an activity has come stands in started, finished, remaining or done; the status date stands above"),
+    ("status", "how far an activity has come stands in started, finished, remaining or done; the status date stands "
+     "above"),
 ) for head in heads.split(", ")}
 NEAR = 0.8  # of two heads, from when on one may be meant for the other
 MANY = (Column.NOTE, Column.COMPUTED, Column.RESOURCE)  # of which a table may have several
@@ -142,7 +143,8 @@ def read_heads(file: str, sheet: Sheet, faults: Faults) -> Columns:
     if len(columns.resources) > MOST_RESOURCES:
         faults.tell()  # before the demands for each are read
     missing = [f"{file}: row {sheet.head_row} has no column for the {kind.value}, such as '{example}'"
-               for kind, example in ((Column.NAME, "activity"), (Column.DURATION, "days")) if kind not in columns.places]
+               for kind, example in ((Column.NAME, "activity"), (Column.DURATION, "days"))
+               if kind not in columns.places]
     if missing:  # which a column of the planner's own may be
         own = [fault_at(file, sheet.head_row, place, sheet.heads[place], why_not_own(sheet.heads, place))
                for place in columns.own]
@@ -172,8 +174,8 @@ def why_not_own(heads: list[str], place: int) -> str:
     if like(head):
         return f"not a column that plan knows; did you mean '{like(head)}'?"
     is_half = re.fullmatch(r".*\(\s*\d+", heads[place]) and cell(heads, place + 1).endswith(")")
-    return ("not a column that plan knows; a resource has its capacity, as in 'crew (5)', and a column of your own words is "
-            "called notes" + ("; a name with a comma in it stands in quotes" if is_half else ""))
+    return ("not a column that plan knows; a resource has its capacity, as in 'crew (5)', and a column of your own "
+            "words is called notes" + ("; a name with a comma in it stands in quotes" if is_half else ""))
 
 
 def why_no_resource(columns: Columns, head: str) -> str:

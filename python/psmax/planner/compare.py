@@ -26,16 +26,16 @@ class ComparedPlan:
         for was, name in tied.gone.items():
             begin = given.starts[was]
             if begin.period is None:
-                raise BadInput(f"{begin.place}: {short(name)} is no activity of {opened.path}, so its start has to be the "
-                               "number of a period")
+                raise BadInput(f"{begin.place}: {short(name)} is no activity of {opened.path}, so its start has to be "
+                               "the number of a period")
             self.starts[was] = begin.period
         names = given.names or {was: opened.names.activities.get(now, "") for was, now in self.now.items()}
         self.names = {was: names.get(was, "") for was in self.starts}
         takes = {was: opened.project.durations[now] for was, now in self.now.items()} | given.takes
         unknown = [name for was, name in tied.gone.items() if was not in takes]
         if unknown:
-            raise BadInput(f"{given.called}: {short(unknown[0])} is no activity of {opened.path}, and no column 'takes' says "
-                           "how long it took")
+            raise BadInput(f"{given.called}: {short(unknown[0])} is no activity of {opened.path}, and no column "
+                           "'takes' says how long it took")
         self.ends = {was: start + takes[was] for was, start in self.starts.items()}
         due = {was: opened.project.due[now] for was, now in self.now.items() if now in opened.project.due}
         is_whole = opened.table is None and not tied.gone and not tied.new  # of a text that may end behind all of them
@@ -105,7 +105,8 @@ def totals(was: ComparedPlan, now: ComparedPlan) -> list[str]:
     """What became of the makespan, and of the lateness where something is due."""
     length = now.opened.length
     told = [f"makespan {describe_change(was.makespan, now.makespan, length)}{describe_ends(was, now)}"]
-    return told + ([f"lateness {describe_change(was.lateness, now.lateness, length)}"] if now.opened.project.due else [])
+    return told + ([f"lateness {describe_change(was.lateness, now.lateness, length)}"] if now.opened.project.due
+                   else [])
 
 
 def differences(was: ComparedPlan, now: ComparedPlan) -> list[str]:

@@ -101,14 +101,15 @@ def must_fit(rows: Iterable[Row], durations: Sequence[int], demands: Sequence[Se
 def must_go_on(row: Row, rest: int, found: Sequence[Stretch], now: int) -> None:
     """What has started goes on without a break."""
     if rest and (not found or found[0][0] > now or found[0][1] < now + rest):
-        raise row.fault(Column.DURATION, f"what remains, {period_text(row, rest)}, goes beyond the hours of what it needs; "
-                        "write what is done as a row that has finished, and the rest as one of its own")
+        raise row.fault(Column.DURATION, f"what remains, {period_text(row, rest)}, goes beyond the hours of what it "
+                        "needs; write what is done as a row that has finished, and the rest as one of its own")
 
 
 def must_fit_one(row: Row, duration: int, longest: int) -> None:
     if duration > longest > 0:
         raise row.fault(Column.DURATION, f"{period_text(row, duration)}, and all that it needs is there for "
-                        f"{period_text(row, longest)} at a time; 'yes' in a column 'may pause' cuts it into whole shifts")
+                        f"{period_text(row, longest)} at a time; 'yes' in a column 'may pause' cuts it into whole "
+                        "shifts")
     if duration > longest:
         raise row.fault(Column.DURATION, "all that it needs is never there at once")
 

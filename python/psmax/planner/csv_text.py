@@ -119,7 +119,8 @@ def must_be_small(file: str, text: str, separators: Iterable[str]) -> None:
         raise BadInput(f"{file}: a table has at most {MOST_CELLS:,} cells, and this one {cells:,}")
 
 
-def head_of(rows: list[list[str]], names_columns: Callable[[list[str]], bool], count_heads: Callable[[list[str]], int]) -> int:
+def head_of(rows: list[list[str]], names_columns: Callable[[list[str]], bool],
+            count_heads: Callable[[list[str]], int]) -> int:
     first = rows[:MOST_TITLES]
     nearest = max(range(len(first)), key=lambda place: (count_heads(heads(first[place])), -place), default=0)
     return next((place for place, row in enumerate(first) if names_columns(heads(row))), nearest)

@@ -17,7 +17,8 @@ NUMBER = re.compile(rf"[-+]?\s*({PARTS})")  # with which a cell begins
 LAG = re.compile(rf"(?:(?:FS|SS|FF|SF|EA|AA|EE|AE)\s*[-+]|<=?|\u2264)\s*"
                  rf"({PARTS}(?=\s*(?:(?:{'|'.join(WORDS)})\b|%))|\d+\.\d+(?![\d.,]))", re.I)
 THOUSANDS = re.compile(r"[1-9]\d{0,2}([.,])\d{3}(?:\1\d{3})*")
-LENGTHS = (Column.DURATION, Column.REMAINING, Column.DONE, Column.AT_LEAST, Column.AT_MOST, Column.NOT_BEFORE, Column.END_BY,
+LENGTHS = (Column.DURATION, Column.REMAINING, Column.DONE, Column.AT_LEAST, Column.AT_MOST, Column.NOT_BEFORE,
+           Column.END_BY,
            Column.DUE, Column.STARTED, Column.FINISHED)
 
 
@@ -82,5 +83,5 @@ def numbers_in(sheet: Sheet, places: Mapping[Column, int]) -> Iterator[Found]:
 def why_no_number(one: Found, first: Found | None) -> str:
     if first is None:
         return f"'{short(one.text)}' may be {one.readings()}; write that"
-    return (f"'{short(one.text)}' has not the decimal {SIGNS[first.sign]} that row {first.row} has in '{short(first.text)}'; "
-            "one table has one decimal sign")
+    return (f"'{short(one.text)}' has not the decimal {SIGNS[first.sign]} that row {first.row} has in "
+            f"'{short(first.text)}'; one table has one decimal sign")

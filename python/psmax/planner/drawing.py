@@ -80,7 +80,8 @@ class Details:
     open: Collection[int] = ()  # whose total float is not known yet
 
 
-def make(opened: ProjectFile, starts: tuple[int, ...], title: str, notes: tuple[str, ...] = (), known: Details = Details(),
+def make(opened: ProjectFile, starts: tuple[int, ...], title: str, notes: tuple[str, ...] = (),
+         known: Details = Details(),
          is_plan: bool = True) -> Drawing:
     project = opened.project
     begins = min(0, *starts[:-1])

@@ -36,12 +36,14 @@ class Total:
         return total_float(begin_with(opened, self.start), starts, Psprove(clock, opened.path), self.jobs)
 
 
-def float_rows(opened: ProjectFile, answer: JudgedStarts, found: dict[int, Window], total: TotalFloat | None) -> list[list[object]]:
+def float_rows(opened: ProjectFile, answer: JudgedStarts, found: dict[int, Window],
+               total: TotalFloat | None) -> list[list[object]]:
     """The rows of `plan write`, each with its free float, and perhaps with its total float."""
     head, *below = schedule_rows(opened, answer.starts)
     dated = opened.calendar is not None
     head += ["earliest", "latest", "free float", *(["earliest day", "latest day"] if dated else [])]
-    head += ["latest of all", "total float", CRITICAL, *(["latest day of all"] if dated else [])] if total is not None else []
+    head += ["latest of all", "total float", CRITICAL, *(["latest day of all"] if dated
+                                                         else [])] if total is not None else []
     made = [head]
     for activity, row in zip(in_order(opened, answer.starts), below):
         one = found[activity]
@@ -72,7 +74,8 @@ def float_text(opened: ProjectFile, answer: JudgedStarts, found: dict[int, Windo
     return "".join(line.rstrip() + "\n" for line in told)
 
 
-def cells(opened: ProjectFile, starts: tuple[int, ...], activity: int, window: Window, total: TotalFloat | None) -> list[str]:
+def cells(opened: ProjectFile, starts: tuple[int, ...], activity: int, window: Window,
+          total: TotalFloat | None) -> list[str]:
     latest = None if total is None else total.found[activity]
     times = [starts[activity], *((window.earliest, window.latest) if latest is None else (latest.least,))]
     spare = [] if latest is None else [latest.text(opened.length)]
@@ -94,7 +97,8 @@ def floats(opened: ProjectFile, given: str | None, sheet: SheetOptions, chart: C
     if sheet.out is not None and total is not None:
         os.makedirs(sheet.out, exist_ok=True)
         total.write(sheet.out)
-        SheetOptions(os.path.join(sheet.out, TABLE), sheet.excel, sheet.separator).put(float_rows(opened, known, found, total), opened)
+        SheetOptions(os.path.join(sheet.out, TABLE), sheet.excel,
+                     sheet.separator).put(float_rows(opened, known, found, total), opened)
     elif sheet.out is not None:
         sheet.put(float_rows(opened, known, found, total), opened)
     if chart.is_wanted:

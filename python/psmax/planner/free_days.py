@@ -20,14 +20,17 @@ Days = dict[datetime.date, str]
 
 def named_days(told: str, order: str | None, first: datetime.date) -> Days:
     """What a setting says: a code such as DE-BY, or the name of a file."""
-    return public_holidays(told, first, f"holidays {told}") if CODE.fullmatch(told) else days_in_file(told, order, first)
+    if CODE.fullmatch(told):
+        return public_holidays(told, first, f"holidays {told}")
+    return days_in_file(told, order, first)
 
 
 def public_holidays(code: str, first: datetime.date, told: str) -> Days:
     """From the year of the first day on. A country or a part that the package doesn't know is a fault."""
     found, package = CODE.fullmatch(code), extra("holidays", told)
     country, part = (found[1], found[2]) if found is not None else (code, None)
-    years, make = range(first.year, first.year + YEARS + 1), getattr(package, "country_holidays", package.CountryHoliday)
+    years = range(first.year, first.year + YEARS + 1)
+    make = getattr(package, "country_holidays", package.CountryHoliday)
     name = "subdiv" if hasattr(package, "country_holidays") else "prov"
     try:
         parts = parts_of_country(type(make(country, years=[first.year])))
@@ -41,7 +44,8 @@ def public_holidays(code: str, first: datetime.date, told: str) -> Days:
 
 def parts_of_country(country: type) -> list[str]:
     """The codes of its parts, by the names that versions of the package have for them."""
-    return [*dict.fromkeys(one for name in ("subdivisions", "PROVINCES", "STATES") for one in getattr(country, name, ()))]
+    return [*dict.fromkeys(one for name in ("subdivisions", "PROVINCES", "STATES")
+                           for one in getattr(country, name, ()))]
 
 
 def days_in_file(path: str, order: str | None, first: datetime.date) -> Days:
@@ -70,9 +74,11 @@ def day_lines(path: str) -> dict[int, str]:
     text = read_text(path)
     if len(text) > MOST_SIGNS:
         raise BadInput(f"{path}: too long: a list of days without work has at most {MOST_SIGNS:,} signs")
-    found = {number: line.strip() for number, line in enumerate(text.splitlines(), 1) if line.strip()[:1] not in ("", "#")}
+    found = {number: line.strip() for number, line in enumerate(text.splitlines(), 1)
+             if line.strip()[:1] not in ("", "#")}
     if len(found) > MOST_LINES:
-        raise BadInput(f"{path}: a list of days without work has at most {MOST_LINES:,} lines, and this one {len(found):,}")
+        raise BadInput(f"{path}: a list of days without work has at most {MOST_LINES:,} lines, and this one "
+                       f"{len(found):,}")
     if sum(CODE.match(line) is not None for line in found.values()) > MOST_CODES:
         raise BadInput(f"{path}: a list of days without work names at most {MOST_CODES} countries")
     return found

@@ -37,7 +37,8 @@ def name_value(opened: ProjectFile, value: int | None) -> str:
 
 def describe_answer(opened: ProjectFile, known: Known, starts: Sequence[int]) -> str:
     value, bound, words = known.value or 0, known.bound or 0, Words(opened)
-    rest = "" if known.settled else f", at least {describe_lateness(words, bound) if known.goal is Goal.LATENESS else words.many(bound)}"
+    least = describe_lateness(words, bound) if known.goal is Goal.LATENESS else words.many(bound)
+    rest = "" if known.settled else f", at least {least}"
     return describe_end(opened, starts, value) + rest
 
 

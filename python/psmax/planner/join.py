@@ -39,7 +39,8 @@ def join_logs(tree: Tree, record: str, clock: Clock) -> Joined:
         start = ["--start", f"{tree.folder / 'start'}"]
     made = os.path.join(os.path.dirname(os.path.realpath(record)), f".plan-{secrets.token_hex(8)}")
     try:
-        psprove.call(["join", *project, *start, "--tree", f"{tree.write_list()}", "--record", made], b"", math.inf, told.append)
+        psprove.call(["join", *project, *start, "--tree", f"{tree.write_list()}", "--record", made], b"", math.inf,
+                     told.append)
         status, out = psprove.call(["verify", *project], pathlib.Path(made), math.inf)
         says = out.decode("utf-8", "replace").strip()
         if status != 0 or not PROVED.fullmatch(says):

@@ -115,14 +115,15 @@ class Lags:
         for side, is_exact in ((before, before.is_end == is_least), (own, own.is_end != is_least)):
             if side.is_group and not is_exact:
                 verb, which = ("ends", "last") if side.is_end else ("starts", "first")
-                raise row.fault(column, f"a group {verb} with the {which} of its activities, whichever that is; name the "
-                                "activity")
+                raise row.fault(column, f"a group {verb} with the {which} of its activities, whichever that is; name "
+                                "the activity")
         for tail in before.numbers:
             for head in own.numbers:
                 base = before.base(self.activities, tail) - own.base(self.activities, head)
                 self.add(row, column, tail, head, base, length, is_least)
 
-    def add(self, row: Row, column: Column, before: int, activity: int, base: int, length: Length, is_least: bool) -> None:
+    def add(self, row: Row, column: Column, before: int, activity: int, base: int, length: Length,
+            is_least: bool) -> None:
         """One arc: the activity starts so long after `base` periods after the start of the other, at least or at
         most."""
         if length.unit is Unit.CALENDAR_DAYS:
@@ -164,7 +165,8 @@ class Lags:
         before = self.activities.side(number, kind[0] == "F") if number is not None else \
             Side(group.activities if group is not None else [], kind[0] == "F", True)
         must_be_others(row, column, before, own)
-        own = Side(own.numbers, kind[1] == "F", True) if own.is_group else self.activities.side(own.numbers[0], kind[1] == "F")
+        to_end = kind[1] == "F"
+        own = Side(own.numbers, to_end, True) if own.is_group else self.activities.side(own.numbers[0], to_end)
         low, high = self.told(row, text, before, least), None if most is None else self.told(row, text, before, most)
         if kind[1] == "F" and Unit.CALENDAR_DAYS in (low.unit, high and high.unit):
             raise row.fault(column, f"'{short(text)}': calendar days are for lags to a start, FS or SS")
@@ -181,7 +183,8 @@ class Lags:
             return row.length(Column.PREDECESSORS, told)
         if before.is_group or before.numbers[0] in {*self.activities.lasts, *self.activities.lasts.values()}:
             which = "a group" if before.is_group else "what may pause"
-            raise row.fault(Column.PREDECESSORS, f"'{short(text)}': {which} has no duration of which a lag could be a share")
+            raise row.fault(Column.PREDECESSORS, f"'{short(text)}': {which} has no duration of which a lag could be a "
+                            "share")
         duration = self.activities.planned[before.numbers[0] - 1]
         periods = duration * Fraction(share[1].replace(",", ".")) / 100
         if periods.denominator != 1:
@@ -264,8 +267,8 @@ def links(row: Row) -> list[str]:
     """The predecessors of a cell. With a ';' in it, a comma is that of a number."""
     text = row.cell(Column.PREDECESSORS)
     if ";" not in text and EITHER.search(text):
-        raise row.fault(Column.PREDECESSORS, f"'{short(text)}': the comma may stand in a number or between two predecessors; "
-                        "write ';' between these, or a point in the number")
+        raise row.fault(Column.PREDECESSORS, f"'{short(text)}': the comma may stand in a number or between two "
+                        "predecessors; write ';' between these, or a point in the number")
     parts = text.split(";") if ";" in text else DECIMAL.sub(r"\1.\2", text).split(",")
     return [part.strip() for part in parts if part.strip()]
 
@@ -290,8 +293,8 @@ def split_link(text: str, ids: Collection[str]) -> tuple[str, str, str, str | No
 def no_predecessor(row: Row, text: str, number: str) -> str:
     if Column.ID not in row.terms.columns.places:
         return "predecessors are numbers of activities, and no column ID has these"
-    example = "" if re.fullmatch(r"\w+", number) else ("; a predecessor is such as 12, 12FS+2, 14SS, 9FF-1 d, 3SF, 12FS+50% or "
-                                                       "12FS<3 d")
+    example = "" if re.fullmatch(r"\w+", number) else ("; a predecessor is such as 12, 12FS+2, 14SS, 9FF-1 d, 3SF, "
+                                                       "12FS+50% or 12FS<3 d")
     return f"'{short(text)}': no activity {short(number)}{example}"
 
 
@@ -317,5 +320,6 @@ def shares_in(rows: Iterable[Row], own: Unit) -> list[Length]:
         for share in (SHARE.fullmatch(text) for text in told if text is not None):
             with suppress(ValueError):
                 length = read_length(durations.get(called.casefold(), ""), own)
-                found += [replace(length, value=length.value * Fraction(share[1].replace(",", ".")) / 100)] if share else []
+                if share is not None:
+                    found.append(replace(length, value=length.value * Fraction(share[1].replace(",", ".")) / 100))
     return found

@@ -11,7 +11,8 @@ from typing import TYPE_CHECKING, NoReturn
 from ..errors import BadInput
 from ..project import MOST_UNITS
 from .csv_text import SEPARATORS
-from .shared_options import (MOST_JOBS, SECONDS, add_limits, add_project, add_schedule, add_settings, add_start, whole_number,
+from .shared_options import (MOST_JOBS, SECONDS, add_limits, add_project, add_schedule, add_settings, add_start,
+                             whole_number,
                              opened, number_of_seconds, settings, start)
 
 if TYPE_CHECKING:
@@ -59,12 +60,14 @@ def parser_of(command: str) -> Parser:
     """That of one command alone, since the parsers of all take longer than many a command."""
     name, run, adders, _, reads, example = next(one for one in COMMANDS if one[0] == command)
     epilog = f"example:\n  plan {name} {example}\n\n{STATUSES}"
-    one = Parser(prog=f"plan {name}", description=reads, epilog=epilog, formatter_class=argparse.RawDescriptionHelpFormatter)
+    one = Parser(prog=f"plan {name}", description=reads, epilog=epilog,
+                 formatter_class=argparse.RawDescriptionHelpFormatter)
     add_arguments(one, run, adders)
     return one
 
 
-def add_arguments(one: argparse.ArgumentParser, run: Callable[[argparse.Namespace], int], adders: Sequence[Adder]) -> None:
+def add_arguments(one: argparse.ArgumentParser, run: Callable[[argparse.Namespace], int],
+                  adders: Sequence[Adder]) -> None:
     for add in adders:
         add(one)
     one.set_defaults(run=run)
@@ -78,9 +81,10 @@ def parse_arguments(arguments: Sequence[str]) -> argparse.Namespace:
 
 
 def add_solve(one: argparse.ArgumentParser) -> None:
-    one.add_argument("--out", metavar="FILE", help="write each shorter schedule into FILE; or search in cubes, which stand in "
-                     "the folder FILE/, without a limit of seconds")
-    one.add_argument("--cluster", metavar="ADDRESS", help="search the cubes on a cluster of Dask, such as tcp://HOST:8786")
+    one.add_argument("--out", metavar="FILE", help="write each shorter schedule into FILE; or search in cubes, which "
+                     "stand in the folder FILE/, without a limit of seconds")
+    one.add_argument("--cluster", metavar="ADDRESS", help="search the cubes on a cluster of Dask, such as "
+                     "tcp://HOST:8786")
     one.add_argument("--svg", metavar="FILE", help="draw the schedule into FILE")
     one.add_argument("--record", metavar="FILE", help="write the record that proves the bound into FILE")
     one.add_argument("--json", action="store_true", help="print the answer as one line of JSON")
@@ -109,11 +113,13 @@ def has_cubes(folder: str) -> bool:
 
 
 def add_verify(one: argparse.ArgumentParser) -> None:
-    one.add_argument("record", metavar="RECORD", nargs="?", help="a record of psprove or psmax, or a folder of cubes with one; "
+    one.add_argument("record", metavar="RECORD", nargs="?",
+                     help="a record of psprove or psmax, or a folder of cubes with one; "
                      "a folder of cubes alone has its project, too")
     one.add_argument("--jobs", type=whole_number(1, MOST_JOBS), default=1, metavar="N",
                      help="check a record of psprove in N parts at once (default 1)")
-    one.add_argument("--cluster", metavar="ADDRESS", help="check its parts on a cluster of Dask, such as tcp://HOST:8786")
+    one.add_argument("--cluster", metavar="ADDRESS", help="check its parts on a cluster of Dask, such as "
+                     "tcp://HOST:8786")
     one.add_argument("--json", action="store_true", help="print the verdict as one line of JSON")
 
 
@@ -154,7 +160,8 @@ def add_read(one: argparse.ArgumentParser) -> None:
     from ..formats import FORMATS
     one.add_argument("table", metavar="TABLE", help="a table or a project text; - for standard input")
     one.add_argument("--out", metavar="PROJECT", help="write the project there (default: beside the table, as .sch)")
-    one.add_argument("--to", choices=[*FORMATS], help="the format that is written (default: as the suffix of --out says)")
+    one.add_argument("--to", choices=[*FORMATS], help="the format that is written (default: as the suffix of --out "
+                     "says)")
 
 
 def run_read(options: argparse.Namespace) -> int:
@@ -176,7 +183,8 @@ def sheet_options(options: argparse.Namespace) -> "SheetOptions":
 
 
 def add_write(one: argparse.ArgumentParser) -> None:
-    one.add_argument("--daily", action="store_true", help="write what each resource does on each day, as a page of HTML")
+    one.add_argument("--daily", action="store_true", help="write what each resource does on each day, as a page of "
+                     "HTML")
     one.add_argument("--resource", metavar="NAME",
                      help="write only what needs this resource into a calendar or a daily list")
     one.add_argument("--total", action="store_true", help="prove total floats for a spreadsheet file")
@@ -191,7 +199,8 @@ def run_write(options: argparse.Namespace) -> int:
 def add_float(one: argparse.ArgumentParser) -> None:
     one.add_argument("--chart", action="store_true", help="draw a chart instead of a table")
     one.add_argument("--total", action="store_true",
-                     help="prove the latest start in any schedule that is no longer; --out is then a new folder, for records")
+                     help="prove the latest start in any schedule that is no longer; --out is then a new folder, for "
+                     "records")
 
 
 def run_float(options: argparse.Namespace) -> int:
@@ -231,7 +240,8 @@ def run_report(options: argparse.Namespace) -> int:
 def add_watch(one: argparse.ArgumentParser) -> None:
     one.add_argument("table", metavar="TABLE", help="a table of activities in CSV")
     one.add_argument("--record", metavar="FILE", help="write the record of each search into FILE")
-    one.add_argument("--port", type=whole_number(0, 65_535), default=0, metavar="P", help="serve on this port (default: a free one)")
+    one.add_argument("--port", type=whole_number(0, 65_535), default=0, metavar="P",
+                     help="serve on this port (default: a free one)")
     one.add_argument("--open", action="store_true", help="open the page in a browser")
 
 
@@ -276,8 +286,8 @@ def run_why(options: argparse.Namespace) -> int:
 
 def add_whatif(one: argparse.ArgumentParser) -> None:
     one.add_argument("changes", metavar="CHANGE", nargs="*", help="a change, or some with ';' between them, such as "
-                     "'sundays', 'shift 06:00-22:00', 'crew +2', 'weld hanger -2 d' or 'drop absence crane' (default: all that "
-                     "plan tries)")
+                     "'sundays', 'shift 06:00-22:00', 'crew +2', 'weld hanger -2 d' or 'drop absence crane' (default: "
+                     "all that plan tries)")
 
 
 def run_whatif(options: argparse.Namespace) -> int:
@@ -298,10 +308,12 @@ def run_where(options: argparse.Namespace) -> int:
 
 def add_batch(one: argparse.ArgumentParser) -> None:
     one.add_argument("folders", metavar="FOLDER", nargs="*", help="a folder with project texts, or with tables")
-    one.add_argument("--seconds", type=number_of_seconds, default=60.0, metavar="S", help="stop each search after S seconds (default 60)")
+    one.add_argument("--seconds", type=number_of_seconds, default=60.0, metavar="S",
+                     help="stop each search after S seconds (default 60)")
     one.add_argument("--jobs", type=whole_number(1, MOST_PROJECTS), default=1, metavar="N",
                      help="search N projects at a time (default 1)")
-    one.add_argument("--csv", metavar="FILE", help="write the table there, and keep its rows (default: standard output)")
+    one.add_argument("--csv", metavar="FILE", help="write the table there, and keep its rows (default: standard "
+                     "output)")
     one.add_argument("--out", metavar="FOLDER", help="write the schedules into this folder")
     one.add_argument("--record", metavar="FOLDER", help="write the records into this folder")
     one.add_argument("--known", metavar="FILE", help="a table of published bounds: project, lower, upper")
@@ -316,7 +328,8 @@ def run_batch(options: argparse.Namespace) -> int:
         raise BadInput("either a FOLDER, or --join and tables; see plan batch --help")
     if options.join is not None:
         return batch_table.join_tables(options.join, options.csv)
-    return batch.batch(batch.Batch(options.folders, options.seconds, options.jobs, options.part, options.csv, options.out,
+    return batch.batch(batch.Batch(options.folders, options.seconds, options.jobs, options.part, options.csv,
+                                   options.out,
                                    options.record, options.known))
 
 
@@ -363,7 +376,8 @@ activity while the others stay; with --total the latest start in any schedule th
 is no longer, proved.""", "site.csv plan.csv --total"),
     ("compare", run_compare, (add_project, add_compare, add_limits),
      "show what moved from one schedule to another",
-     "Reads a project and two answers. Prints what moved, what is new and what is gone.", "site.csv old.csv new.csv --why"),
+     "Reads a project and two answers. Prints what moved, what is new and what is gone.",
+     "site.csv old.csv new.csv --why"),
     ("report", run_report, (add_schedule, add_report, add_baseline, add_start, add_limits),
      "write a schedule as a page of HTML, with what is proved",
      """Reads a project and an answer. Writes one page with a chart, lags, resources and

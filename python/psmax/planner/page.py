@@ -24,7 +24,8 @@ from .window import Window
 from .wording import Words
 
 FOLDER = pathlib.Path(__file__).parent
-PLACES = ("headline", "made", "read", "facts", "proof", "definitions", "ruler", "arrows", "heads", "chain", "total", "lines",
+PLACES = ("headline", "made", "read", "facts", "proof", "definitions", "ruler", "arrows", "heads", "chain", "total",
+          "lines",
           "loads", "rows", "uses", "digest")
 WIDTH = {"A4": 760, "A3": 1230}  # pixels of the time at least, so that it fits the paper on its side beside the names
 Rows = list[tuple[str, str]]  # rows of a table, each with what it is known by
@@ -78,7 +79,8 @@ class Page:
             "proof": markup(*in_code(self.view.proof)),
             "definitions": markup(definitions(), holding("g", chart.grid(LOAD), id="grid")),
             "ruler": markup(picture(chart.ruler_height, chart.ruler())),
-            "arrows": markup(mark("svg", width=chart.width, height=0), picture(height, chart.grid(height), kind="behind"),
+            "arrows": markup(mark("svg", width=chart.width, height=0),
+                             picture(height, chart.grid(height), kind="behind"),
                              picture(chart.height, arrows)),
             "heads": markup(*self.lists.heads()), "chain": markup(*self.lists.chain()),
             "total": escape(self.said_of_total()), "digest": escape(self.view.digest),
@@ -143,9 +145,9 @@ class Page:
         return found
 
     def said_of_total(self) -> str:
-        text = ("Total float is how much later an activity can start in some schedule that is no longer than this one: psprove "
-                "has found that schedule, and proved that there is none with a later start. Free float is how much later it "
-                "can start while the others stay.")
+        text = ("Total float is how much later an activity can start in some schedule that is no longer than this one: "
+                "psprove has found that schedule, and proved that there is none with a later start. Free float is how "
+                "much later it can start while the others stay.")
         left = 0 if self.view.total is None else len(self.view.total.open())
         if left:
             text += f" For {left} activities the time did not settle the total float: it is an interval."
@@ -158,7 +160,8 @@ def key_of(bar: Bar) -> str:
 
 
 def picture(height: int, parts: Iterable[Element], said: str = "", kind: str = "") -> Element:
-    return holding("svg", parts, kind, width="100%", height=height, **(dict(role="img", aria_label=said) if said else {}))
+    return holding("svg", parts, kind, width="100%", height=height,
+                   **(dict(role="img", aria_label=said) if said else {}))
 
 
 def in_code(text: str) -> list[Element]:
@@ -192,7 +195,8 @@ class More:
     policy: str = ""
 
 
-def html(title: str, paper: str, parts: Mapping[str, str], told: object, is_shortest: bool = False, more: More = More()) -> str:
+def html(title: str, paper: str, parts: Mapping[str, str], told: object, is_shortest: bool = False,
+         more: More = More()) -> str:
     """The page. A place of which nothing is said is empty."""
     quoted = json.dumps(title).replace("<", "\\3c ")
     style = filled(read_part("page.css"), {"paper": paper, "quoted": quoted}, str) + STYLE + more.style

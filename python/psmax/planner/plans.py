@@ -37,7 +37,8 @@ class PlanSchedule:
     def told(self) -> list[tuple[str, tuple[str, str]]]:
         """The name and the dates of each activity."""
         opened = self.opened
-        return [(opened.names.activities.get(i, ""), opened.times(i, self.starts[i])) for i in range(1, opened.project.end)]
+        return [(opened.names.activities.get(i, ""), opened.times(i, self.starts[i]))
+                for i in range(1, opened.project.end)]
 
     def given(self) -> AnswerText:
         """The same as an answer with names, which a table that has changed since can take."""
@@ -133,6 +134,7 @@ def contents(plan: Plan, stem: str) -> dict[str, bytes]:
             if not judgement.wrong:
                 found, files[f"{stem}.record"] = judgement, record.data
     view = View(opened, starts, proof(answer, found), found is not None and found.bound == answer.value,
-                plan.windows or windows(opened.project, starts, psmax), plan.total, headline=headline_of(answer, found, opened),
+                plan.windows or windows(opened.project, starts, psmax), plan.total,
+                headline=headline_of(answer, found, opened),
                 digest=describe_digest(found))
     return files | {f"{stem}.html": render_page(view, "A4"), f"{stem}-table.csv": opened.text.encode()}

@@ -19,7 +19,8 @@ def read_progress(standing: Standing, rows: Sequence[Row], durations: list[int],
     """Takes the real starts, and changes the durations of what has started."""
     for number, row in enumerate(rows, 1):
         with faults.kept():
-            told = [column for column in TOLD if row.cell(column) and not is_nothing(row, column, durations[number - 1])]
+            told = [column for column in TOLD if row.cell(column)
+                    and not is_nothing(row, column, durations[number - 1])]
             if told and standing.now is None:
                 raise row.fault(told[0], "how far the project has come needs --status, the date at which that is so")
             if told and Column.STARTED not in told:
@@ -58,8 +59,8 @@ def real_end(row: Row, now: int, start: int) -> int:
     if end > now:
         raise row.fault(Column.FINISHED, "an end behind the status date; what has ended is before it")
     if is_reversed(begun, ended, start, end):
-        raise row.fault(Column.FINISHED, f"'{short(row.cell(Column.FINISHED))}' is before '{short(row.cell(Column.STARTED))}', "
-                        "where it started")
+        raise row.fault(Column.FINISHED, f"'{short(row.cell(Column.FINISHED))}' is before "
+                        f"'{short(row.cell(Column.STARTED))}', where it started")
     return max(start, end)
 
 

@@ -160,8 +160,8 @@ def open_other(path: str, data: bytes, words: Settings, page: str | None) -> Pro
             raise BadInput(f"{path}: --{name} is for tables")
     numbers, dates = made.numbers(settings.minimize or Goal.MAKESPAN.value), calendar(settings, names.unit, days)
     if made.hours and (made.calendar is None or dates != made.calendar.calendar()):
-        raise BadInput(f"{path}: resources have hours of their own, which need the days and hours of the file; leave out "
-                       "--from and other words for these")
+        raise BadInput(f"{path}: resources have hours of their own, which need the days and hours of the file; leave "
+                       "out --from and other words for these")
     return ProjectFile(path, numbers, names, settings, dates, {"the project": path}, parts=made)
 
 
@@ -209,7 +209,8 @@ def open_table(path: str, words: Settings, page: str | None = None) -> ProjectFi
     text = read_text(path, words.sheet)
     found = read_table(path, text, words, os.path.dirname(path))
     if is_in_code_page(read_bytes(path)):
-        found = replace(found, notes=(f"{path} is no UTF-8, and is read in code page 1252, that of Windows", *found.notes))
+        found = replace(found, notes=(f"{path} is no UTF-8, and is read in code page 1252, that of Windows",
+                                      *found.notes))
     return of_table(path, found, {"the table": path} | ({} if page is None else {"the page of names": page}), text)
 
 
@@ -225,7 +226,8 @@ def of_table(path: str, found: Table, sources: dict[str, str], text: str) -> Pro
     if found.calendar is not None:
         begin = found.calendar.begins(0)
         found.calendar.style = style_of([*cells, found.settings.first or ""], found.settings.dates, begin)
-    return ProjectFile(path, found.project, found.names, found.settings, found.calendar, sources, found, sheet.separator,
+    return ProjectFile(path, found.project, found.names, found.settings, found.calendar, sources, found,
+                       sheet.separator,
                        found.mornings, decimal_sign(cells), text)
 
 
@@ -244,10 +246,12 @@ def open_text(path: str, data: bytes, words: Settings, page: str | None) -> Proj
     settings = checked(words.over(told))
     for name in ("absences", "status", "minimize", "horizon", "sheet"):
         if getattr(settings, name) is not None:
-            raise BadInput(f"{path}: --{name} needs the table of the project" + (f", {table}" if table is not None else ""))
+            raise BadInput(f"{path}: --{name} needs the table of the project"
+                           + (f", {table}" if table is not None else ""))
     Psmax(Clock(), path).earliest_of_text(data)
     found = calendar(settings, names.unit)
-    separator = read_sheet(beside, read_text(beside)).separator if os.path.isfile(beside) and not is_answer(beside) else ","
+    is_there = os.path.isfile(beside) and not is_answer(beside)
+    separator = read_sheet(beside, read_text(beside)).separator if is_there else ","
     return ProjectFile(path, parse(data), names, settings, found, sources, separator=separator)
 
 

@@ -67,7 +67,9 @@ def read_length(text: str, unit: Unit) -> Length:
 def time_after(text: str, own: Unit) -> Length | None:
     """How long after the start a time is: a whole number, or one with its unit, as 2 d; none for what may be a date."""
     found = LENGTH.fullmatch(text)
-    if found is None or not (found[2] or text.isdigit()) or found[2].lower() not in ("", *WORDS) or text.startswith("-"):
+    if found is None or not (found[2] or text.isdigit()) or text.startswith("-"):
+        return None
+    if found[2].lower() not in ("", *WORDS):
         return None
     return read_length(text, own)
 
@@ -81,16 +83,18 @@ def day_of_serial(text: str, periods: int, calendar: Calendar | None) -> Moment 
         return None
     if calendar is None:
         if is_like and periods > TEN_YEARS.days:
-            raise ValueError(f"may be {counted_day(number):%Y-%m-%d}, as a spreadsheet counts days, and a date needs --from")
+            raise ValueError(f"may be {counted_day(number):%Y-%m-%d}, as a spreadsheet counts days, and a date needs "
+                             "--from")
         return None
     start = calendar.begins(0)
     if periods > calendar.from_on(start + TEN_YEARS):
         if not is_like:
-            raise ValueError("is more periods than ten years have, and no date; write a date, or its unit too, as in 2 d")
+            raise ValueError("is more periods than ten years have, and no date; write a date, or its unit too, as in "
+                             "2 d")
         return Moment(counted_day(number), True)
     if is_like and abs(counted_day(number) - start) <= TEN_YEARS:
-        raise ValueError(f"may be so many periods after the start, or {counted_day(number):%Y-%m-%d}, as a spreadsheet counts "
-                         "days; write that date, or the unit too, as in 2 d")
+        raise ValueError(f"may be so many periods after the start, or {counted_day(number):%Y-%m-%d}, as a spreadsheet "
+                         "counts days; write that date, or the unit too, as in 2 d")
     return None
 
 
@@ -139,7 +143,8 @@ class Scale:
         if self.period is Unit.DAYS and unit is Unit.WEEKS:
             return Fraction(self.week)
         minutes = in_minutes(unit, self.day, self.week)
-        if self.period in (Unit.PERIODS, Unit.WEEKS) or minutes is None or (self.period is Unit.DAYS and self.day is None):
+        is_unknown = minutes is None or self.period is Unit.DAYS and self.day is None
+        if minutes is None or is_unknown or self.period in (Unit.PERIODS, Unit.WEEKS):
             raise ValueError
         return Fraction(minutes, (self.day or 0) if self.period is Unit.DAYS else self.minutes)
 

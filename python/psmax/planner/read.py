@@ -36,7 +36,8 @@ def read(path: str, out: str | None, wanted: str | None, words: Settings) -> int
     if wanted is None and out is not None and pathlib.Path(out).suffix.lower() in OTHERS:
         wanted = formats.format_of_file(out)
     if data.startswith(SPREADSHEET):
-        return read_activities(path, out, words) if wanted in (None, "sch") else convert_table(path, out, f"{wanted}", words)
+        is_sch = wanted in (None, "sch")
+        return read_activities(path, out, words) if is_sch else convert_table(path, out, f"{wanted}", words)
     formats.must_be_readable(path, data)
     text = decoded(data)
     is_sch = pathlib.Path(path).suffix.lower() == PSPLIB or formats.FORMATS["sch"].is_like(text)
@@ -74,8 +75,8 @@ def put_project(path: str, project: Project, out: str | None, wanted: str) -> in
         return 0
     there = read_there(out).decode("utf-8-sig", "replace")
     if there.strip() and not formats.format_named(wanted).is_like(there):
-        raise BadInput(f"{out} is there, and no project of the format {wanted}, and would be lost; name another file with "
-                       "--out")
+        raise BadInput(f"{out} is there, and no project of the format {wanted}, and would be lost; name another file "
+                       "with --out")
     write_whole(out, data)
     return 0
 
@@ -126,7 +127,8 @@ def said_of_text(spelled: ProjectText) -> list[str]:
 def said_of_dates(opened: ProjectFile) -> list[str]:
     """What the numbers leave out."""
     words, horizon = Words(opened), opened.project.horizon
-    known = [] if horizon is None else [f"The text has the hours of resources up to {words.by(horizon)}, and none behind that."]
+    known = [] if horizon is None else [f"The text has the hours of resources up to {words.by(horizon)}, and none "
+                                        "behind that."]
     less = [f"The text has less, since it knows no dates: {words.lag(arc)}. `plan solve` of the table keeps that."
             for arc in words.dated]
     return known + less

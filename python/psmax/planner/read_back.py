@@ -58,7 +58,8 @@ def figures(file: ProjectFile) -> Iterator[str]:
     waits = sum(beyond(file, arc.tail, arc.lag) for arc in least)
     yield count_of(len(least), "lag") + (f" of {words.many(waits)}" if waits else "")
     if most:
-        yield f"{count_of(len(most), 'maximum lag')} of {words.many(sum(beyond(file, arc.head, -arc.lag) for arc in most))}"
+        long = sum(beyond(file, arc.head, -arc.lag) for arc in most)
+        yield f"{count_of(len(most), 'maximum lag')} of {words.many(long)}"
     least += file.table.pauses if file.table is not None else ()
     inner, tails, heads = {*range(1, project.end)}, {arc.tail for arc in least}, {arc.head for arc in least}
     yield f"{len(inner - heads)} first and {len(inner - tails)} last activities"
@@ -138,7 +139,8 @@ def dates(file: ProjectFile) -> Iterator[str]:
 
 def read_back(file: ProjectFile) -> list[str]:
     """All that `plan check` says of a table without an answer."""
-    lines = [read_back_line(file), *file.notes, *put_under("columns", columns(file)), *put_under("settings", settings_read(file))]
+    lines = [read_back_line(file), *file.notes, *put_under("columns", columns(file)),
+             *put_under("settings", settings_read(file))]
     if file.calendar is not None:
         lines += weeks(file, file.calendar) + put_under("holidays of the first year", free_days(file, file.calendar))
     return lines + put_under("absences", describe_absences(file))
@@ -149,7 +151,8 @@ def columns(file: ProjectFile) -> list[str]:
     found = file.table.columns if file.table is not None else None
     if found is None:
         return []
-    said = {place: f"resource, {count_of(units, 'unit')}" for place, units in zip(found.resources, file.project.capacities)}
+    said = {place: f"resource, {count_of(units, 'unit')}" for place,
+            units in zip(found.resources, file.project.capacities)}
     said |= {place: kind.value for place, kind in enumerate(map(column_of, found.heads)) if kind and place not in said}
     heads = [(place, head) for place, head in enumerate(found.heads) if head]
     wide = max(len(head) for _, head in heads)

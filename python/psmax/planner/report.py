@@ -35,7 +35,8 @@ class ReportOptions:
 def proof(answer: JudgedStarts, found: Verdict | None) -> str:
     """What is proved, and by whom."""
     which = answer.project.goal
-    told = f"`psmax check` finds this schedule of {which.words(answer.value)} feasible: it keeps each lag and each resource. "
+    told = (f"`psmax check` finds this schedule of {which.words(answer.value)} feasible: it keeps each lag and each "
+            "resource. ")
     if found is None:
         return told + "No record was handed in, so nothing is said of shorter ones."
     return f"{told}{found.sentence()} {found.judges()}"
@@ -69,7 +70,8 @@ def report(opened: ProjectFile, given: str | None, start: Start, options: Report
     was = read_baseline(opened, options.baseline)
     total = Total(options.seconds, options.jobs, start).of(opened, answer.starts)
     is_shortest = found is not None and found.bound == answer.value
-    view = View(opened, answer.starts, proof(answer, found), is_shortest, windows(opened.project, answer.starts, psmax), total,
+    view = View(opened, answer.starts, proof(answer, found), is_shortest, windows(opened.project, answer.starts, psmax),
+                total,
                 was, headline=headline_of(answer, found, opened), digest=describe_digest(found))
     write_whole(options.out, render_page(view, options.paper))
     return 3 if total.open() else 0

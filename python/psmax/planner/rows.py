@@ -120,9 +120,9 @@ class Row:
         """Calendar days that something takes, which are as many periods on each date."""
         day = self.terms.calendar.periods_a_day() if self.terms.calendar is not None else None
         if day is None:
-            raise self.fault(column, f"how long '{short(self.cell(column))}' is depends on its date; with --from, and periods "
-                             "around the clock on every day, as with --shift 00:00-24:00, it does not, and hours of resources "
-                             "are told as 'crew (4, 06:00-18:00)'")
+            raise self.fault(column, f"how long '{short(self.cell(column))}' is depends on its date; with --from, and "
+                             "periods around the clock on every day, as with --shift 00:00-24:00, it does not, and "
+                             "hours of resources are told as 'crew (4, 06:00-18:00)'")
         periods = length.value * day
         if periods.denominator != 1 or periods > MOST_UNITS:
             raise self.fault(column, f"{short(self.cell(column))} are no whole number of periods up to {MOST_UNITS:,}")
@@ -180,7 +180,9 @@ class Row:
     def is_before_project(self, column: int | Column, text: str) -> bool:
         """Whether a date is over before the project starts."""
         found, calendar = self.time_in(column, text), self.terms.calendar
-        return isinstance(found, Moment) and calendar is not None and is_before(found, Moment(calendar.begins(0), False))
+        if not isinstance(found, Moment) or calendar is None:
+            return False
+        return is_before(found, Moment(calendar.begins(0), False))
 
     def from_on(self, column: int | Column, text: str, moment: datetime.datetime) -> int:
         """The first time that is not before a moment, which this text says."""
@@ -244,8 +246,8 @@ def level(row: Row) -> int:
     if told and not told.isdecimal():
         raise row.fault(Column.LEVEL, "a whole number is missing")
     if is_dated(code) or MONTH.search(code):
-        raise row.fault(Column.WBS, f"'{short(code)}' is no code such as 1.2, but the date that a spreadsheet made of it; "
-                        "format the column as text")
+        raise row.fault(Column.WBS, f"'{short(code)}' is no code such as 1.2, but the date that a spreadsheet made of "
+                        "it; format the column as text")
     if code and not CODE.fullmatch(code):
         raise row.fault(Column.WBS, f"'{short(code)}' is no code such as 1.2, which has points")
     return int(told) if told else len([part for part in code.split(".") if part])

@@ -48,17 +48,22 @@ def opened(options: argparse.Namespace) -> "ProjectFile":
 def add_settings(one: argparse.ArgumentParser) -> None:
     """Of the project. Rows above the table, or else the page of names, say what these options do not."""
     project = one.add_argument_group("settings of the project, which rows above the table may say too")
-    project.add_argument("--from", dest="first", metavar="DATE", help="the day or the moment at which the project starts")
-    project.add_argument("--period", metavar="P", help="the unit of time: minutes, hours, days, weeks, or '30 minutes' for "
-                         "example (default: as the table says)")
-    project.add_argument("--workdays", metavar="DAYS", help="the days with work, such as mon-fri or Mo-Fr (default: every day)")
+    project.add_argument("--from", dest="first", metavar="DATE",
+                         help="the day or the moment at which the project starts")
+    project.add_argument("--period", metavar="P", help="the unit of time: minutes, hours, days, weeks, or '30 minutes' "
+                         "for example (default: as the table says)")
+    project.add_argument("--workdays", metavar="DAYS", help="the days with work, such as mon-fri or Mo-Fr (default: "
+                         "every day)")
     project.add_argument("--holidays", metavar="DAYS", help="days without work: the public holidays of a country "
                          "or a part of it, such as DE or DE-BY, or a file with a day or some a line")
     project.add_argument("--shift", metavar="HOURS", help="the hours of work of a day, such as 07:00-12:00,13:00-16:00")
-    project.add_argument("--zone", metavar="ZONE", help="the time zone of periods and of calendars, such as Europe/Berlin")
-    project.add_argument("--dates", choices=ORDERS, help="what stands first in a date such as 3/2/2026: the day or the month")
+    project.add_argument("--zone", metavar="ZONE", help="the time zone of periods and of calendars, such as "
+                         "Europe/Berlin")
+    project.add_argument("--dates", choices=ORDERS, help="what stands first in a date such as 3/2/2026: the day or the "
+                         "month")
     project.add_argument("--absences", metavar="FILE", help="a table of what is away when: resource, from, to, units")
-    project.add_argument("--status", metavar="DATE", help="the day at which the table says how far the project has come")
+    project.add_argument("--status", metavar="DATE", help="the day at which the table says how far the project has "
+                         "come")
     project.add_argument("--minimize", choices=GOALS, help="what is minimized (default: makespan)")
     project.add_argument("--horizon", metavar="DATE", help="up to when the hours of resources are known")
     project.add_argument("--sheet", metavar="NAME", help="the sheet of a spreadsheet file (default: the first)")
@@ -70,7 +75,8 @@ def settings(options: argparse.Namespace) -> Settings:
 
 
 def add_limits(one: argparse.ArgumentParser) -> None:
-    one.add_argument("--seconds", type=number_of_seconds, default=SECONDS, metavar="S", help="stop after S seconds (default 60)")
+    one.add_argument("--seconds", type=number_of_seconds, default=SECONDS, metavar="S",
+                     help="stop after S seconds (default 60)")
     one.add_argument("--jobs", type=whole_number(1, MOST_JOBS), default=PROCESSORS, metavar="N",
                      help="run N searches side by side (default: the number of processors)")
 

@@ -18,7 +18,8 @@ def draw(shown: Drawing) -> str:
     top = TOP + chart.ruler_height
     bottom = top + chart.height + LOAD * len(shown.loads)
     width, height = left + chart.width, bottom + 8 + ROW * len(shown.notes)
-    picture = mark("svg", xmlns="http://www.w3.org/2000/svg", width=width, height=height, viewBox=f"0 0 {width} {height}")
+    picture = mark("svg", xmlns="http://www.w3.org/2000/svg", width=width, height=height,
+                   viewBox=f"0 0 {width} {height}")
     picture.extend([mark("style", "", STYLE), definitions(), put_words(16, 20, shown.title, "title"),
                     shift_parts(left, TOP, chart.ruler()), shift_parts(left, top, chart.grid(bottom - top))])
     picture.extend(chart_rows(chart, left, top))
@@ -34,7 +35,8 @@ def chart_rows(chart: Chart, left: int, y: int) -> list[Element]:
         found += [put_words(16, y + 13, bar.label, kind), shift_parts(left, y, [tip(chart.said(bar), *chart.bar(bar))])]
         y += ROW
     for load in chart.shown.loads:
-        found += [put_words(16, y + LOAD / 2 + 4, f"{load.name}, of {load.capacity}"), shift_parts(left, y, chart.load(load))]
+        found += [put_words(16, y + LOAD / 2 + 4, f"{load.name}, of {load.capacity}"),
+                  shift_parts(left, y, chart.load(load))]
         y += LOAD
     return found
 

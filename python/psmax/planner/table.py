@@ -56,7 +56,8 @@ def read_table(file: str, text: str, words: Settings, folder: str, page: Setting
     """The words of the command go over the rows above the table, and these over the page of names."""
     sheet, faults = read_sheet(file, text, is_head, count_heads), Faults()
     if len(sheet.rows) > MOST_ROWS:
-        raise BadInput(f"{file}: a table of activities has at most {MOST_ROWS:,} rows, and this one {len(sheet.rows):,}")
+        raise BadInput(f"{file}: a table of activities has at most {MOST_ROWS:,} rows, and this one "
+                       f"{len(sheet.rows):,}")
     above = read_above(file, sheet, folder)
     settings = checked(words.over(above.settings).over(page))
     above.must_have_files(file, settings)
@@ -95,7 +96,8 @@ def terms_of(file: str, sheet: Sheet, columns: Columns, settings: Settings) -> T
         scale = replace(scale, period=Unit(named), minutes=0, is_named=True)
     elif named is not None:
         scale = replace(scale, period=Unit.MINUTES, minutes=minutes_of(named), is_named=True)
-    return replace(blank, scale=scale, calendar=calendar(replace(settings, period=None), scale.name()), is_guess=is_guess)
+    return replace(blank, scale=scale, calendar=calendar(replace(settings, period=None), scale.name()),
+                   is_guess=is_guess)
 
 
 def needs_hours(units: set[Unit], named: str | None) -> bool:
@@ -166,7 +168,8 @@ class Reading:
         notes = [*self.said_of_period(), *self.said_of_start(), *self.said_of_own(), *self.terms.told]
         notes += [said_of_history(arc, called) for arc in broken]
         mornings = lags.activities.mornings
-        return Table(project, names, self.settings, terms.calendar, (*self.parts.values(),), mornings, progress, terms.scale,
+        return Table(project, names, self.settings, terms.calendar, (*self.parts.values(),), mornings, progress,
+                     terms.scale,
                      tuple(row.number for row in self.rows), tuple(notes), above, terms.columns,
                      terms.head_row, crews, pauses)
 
@@ -207,7 +210,8 @@ class Reading:
         if len(self.depth) < len(self.named):
             self.faults.tell()  # alone, since which rows are groups follows from it
         with self.faults.kept():
-            self.groups = {place: row for place, row in enumerate(self.named) if is_summary(self.named, self.depth, place)}
+            self.groups = {place: row for place, row in enumerate(self.named)
+                           if is_summary(self.named, self.depth, place)}
         self.rows = [row for place, row in enumerate(self.named) if place not in self.groups]
         found = groups_of(self.named, self.depth, [place in self.groups for place in range(len(self.named))])
         self.parts = dict(zip(sorted(self.groups), found))
@@ -237,7 +241,8 @@ class Reading:
 
     def lags(self, cuts: Cuts | None) -> Lags:
         names = {row.cell(Column.NAME): self.parts[place] for place, row in reversed(self.groups.items())}
-        ids = {row.cell(Column.ID).casefold(): self.parts[place] for place, row in self.groups.items() if row.cell(Column.ID)}
+        ids = {row.cell(Column.ID).casefold(): self.parts[place] for place,
+               row in self.groups.items() if row.cell(Column.ID)}
         activities = Activities(self.names, self.ids(), names, ids, self.durations, self.planned)
         if cuts is not None:
             cuts.name(activities)
@@ -262,8 +267,8 @@ class Reading:
             text = row.cell(Column.ID).casefold()
             with self.faults.kept():
                 if has_ids and not text:
-                    raise row.fault(Column.ID, f"'{short(row.cell(Column.NAME))}' has no number, and others have; a group says "
-                                    "so in a column 'summary'")
+                    raise row.fault(Column.ID, f"'{short(row.cell(Column.NAME))}' has no number, and others have; a "
+                                    "group says so in a column 'summary'")
                 if text in found:
                     raise row.fault(Column.ID, f"a second activity of the number {short(text)}")
             found |= {text: number} if text else {}
@@ -366,7 +371,8 @@ def why_no_name(name: str) -> str:
         return f"it stands for the {lower} of the project"
     if is_dated(name):
         return "it is a date"
-    for begin, meaning in ((START_OF, "what comes after the start of an activity"), (WITH, "what starts with an activity")):
+    for begin, meaning in ((START_OF, "what comes after the start of an activity"),
+                           (WITH, "what starts with an activity")):
         if lower.startswith(begin):
             return f"'{begin.strip()}' stands before the name of another, for {meaning}"
     return "" if name.isprintable() else "it has a sign that can't be printed"

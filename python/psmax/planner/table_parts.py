@@ -33,7 +33,8 @@ def fill_from_table(made: Parts, opened: ProjectFile) -> None:
     made.ids, made.groups = {**opened.names.ids}, [*opened.groups]
     made.status, made.started = opened.progress.now or None, {**opened.progress.started}
     soonest = {arc.head: arc.lag for arc in sorted(numbers.arcs) if arc.tail == 0}
-    add_lags(made, dict.fromkeys(arc for arc in numbers.arcs if arc.tail or soonest[arc.head] == arc.lag), numbers.dated)
+    add_lags(made, dict.fromkeys(arc for arc in numbers.arcs if arc.tail or soonest[arc.head] == arc.lag),
+             numbers.dated)
 
 
 def work_time_of(opened: ProjectFile) -> WorkTime | None:

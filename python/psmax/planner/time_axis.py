@@ -66,7 +66,8 @@ class Axis:
         """The rows of the ruler, from the coarsest on."""
         step = round_step(MARK * (self.last - self.first) / self.width)
         first = -(-self.shown.begins // step) * step
-        return [[Band(time, time + step, (self.shown.after(time),)) for time in range(first, self.shown.ends + 1, step)]]
+        return [[Band(time, time + step, (self.shown.after(time),))
+                 for time in range(first, self.shown.ends + 1, step)]]
 
     def ticks(self) -> list[float]:
         """Where a line stands in all rows."""
@@ -130,7 +131,8 @@ class DateAxis(Axis):
             free, is_free = self.between(days, [light if day.weekday() < SATURDAY else () for day in days]), False
         return [Shade(begins, ends, is_free) for begins, ends in free if self.pixels(ends - begins) >= LEAST]
 
-    def between(self, days: Sequence[datetime.date], hours: Sequence[Sequence[tuple[int, int]]]) -> list[tuple[float, float]]:
+    def between(self, days: Sequence[datetime.date],
+                hours: Sequence[Sequence[tuple[int, int]]]) -> list[tuple[float, float]]:
         """The stretches between the hours of these days, from the first place to the last."""
         found, until = list[tuple[float, float]](), self.first
         works = [(self.place(at_midnight(day)) + begins, self.place(at_midnight(day)) + ends)

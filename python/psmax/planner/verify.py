@@ -58,21 +58,22 @@ class Verdict:
         if cases:
             which = "the record of one case, which has all schedules" if cases == 1 else \
                 f"the records of {cases} cases, which have all schedules between them"
-            return (f"It has {which}, by the calendar of the table. `{self.program} verify`, which is proved itself, has "
-                    f"judged {'it' if cases == 1 else 'each'}.")
+            return (f"It has {which}, by the calendar of the table. `{self.program} verify`, which is proved itself, "
+                    f"has judged {'it' if cases == 1 else 'each'}.")
         if self.believed:
             drawn = "a part, drawn" if len(self.own) == 1 else f"{len(self.own)} parts, drawn"
             told = ", ".join(f"{name} ({len(numbers)})" for name, numbers in self.believed.items())
-            return (f"`{self.program} verify`, which is proved itself, has judged {drawn} at random of {self.parts}, on this "
-                    f"machine. The others are believed of the workers that judged them: {told}. {self.script} judges all of it "
-                    f"without {self.program}.")
-        return (f"`{self.program} verify`, which is proved itself, has judged it{parts}; {self.script} judges it without "
-                f"{self.program}.")
+            return (f"`{self.program} verify`, which is proved itself, has judged {drawn} at random of {self.parts}, "
+                    f"on this machine. The others are believed of the workers that judged them: {told}. {self.script} "
+                    f"judges all of it without {self.program}.")
+        return (f"`{self.program} verify`, which is proved itself, has judged it{parts}; {self.script} judges it "
+                f"without {self.program}.")
 
     def as_json(self) -> str:
         """One line."""
         return json.dumps({"record": self.path, "project": self.which, "program": self.program, "parts": self.parts,
-                           "own": [*self.own], "believed": {name: [*numbers] for name, numbers in self.believed.items()},
+                           "own": [*self.own],
+                           "believed": {name: [*numbers] for name, numbers in self.believed.items()},
                            "says": self.told, "bound": None if self.wrong else self.bound, "wrong": self.wrong})
 
 

@@ -134,7 +134,8 @@ class Watch:
             anew.told.extend([f"{fault}", "the plan before is not taken over"])
             return anew
 
-    def plan(self, opened: ProjectFile, beginning: Beginning, schedule: PlanSchedule | None, given: AnswerText | None) -> None:
+    def plan(self, opened: ProjectFile, beginning: Beginning, schedule: PlanSchedule | None,
+             given: AnswerText | None) -> None:
         """Where the project is the same, the plan and its search stay, perhaps with other names or dates. Else the page
         says so first, since a search may take seconds to end."""
         now, notes = self.screen.plans.get(self.screen.latest), (*opened.notes, *beginning.told)
@@ -155,7 +156,8 @@ class Watch:
         with suppress(queue.Empty):
             name, number, reply = self.orders.get(timeout=seconds)
             try:
-                reply.set_result(self.back(number) if name == "back" else self.keep() if name == "keep" else self.stop())
+                reply.set_result(self.back(number) if name == "back" else self.keep() if name == "keep"
+                                 else self.stop())
             except Exception as fault:
                 reply.set_exception(BadInput(*explained(fault)[1]))
 
@@ -245,7 +247,8 @@ def watch(path: str, settings: Settings, start: Start, options: WatchOptions) ->
 
 def serve(watching: Watch) -> None:
     try:
-        server = Server(watching.options.port, watching.screen, watch_page(watching.path), watching.order, watching.change)
+        server = Server(watching.options.port, watching.screen, watch_page(watching.path), watching.order,
+                        watching.change)
     except OSError as fault:
         raise Failed(f"port {watching.options.port}: {fault.strerror}") from None
     thread = threading.Thread(target=server.serve_forever, args=(GLANCE,), daemon=True)

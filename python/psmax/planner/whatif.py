@@ -63,12 +63,14 @@ def asked(opened: ProjectFile, changes: Sequence[str], seconds: float, jobs: int
     found = ask_each([one.project for one in files], Psprove(clock, opened.path), jobs)
     names = ["as it is", *changes]
     if sheet.out is not None:
-        rows = [[Text(name), one.status(), end_text(file, one.starts) or "", *("" if value is None else value for value in
+        rows = [[Text(name), one.status(), end_text(file, one.starts) or "",
+                 *("" if value is None else value for value in
                  (one.value, one.bound)), f"{took:.2f}"] for name, file, (one, took) in zip(names, files, found)]
         sheet.put([[*SCENARIO_HEADS], *rows], opened)
     else:
         before = found[0][0].starts
-        told = [headline(file, one)[0] + (describe_shift(opened, before, file, one.starts) if file is not opened else "")
+        told = [headline(file, one)[0] + (describe_shift(opened, before, file, one.starts) if file is not opened
+                                          else "")
                 for file, (one, _) in zip(files, found)]
         wide = max(map(len, names))
         print(*(f"{name:{wide}}  {line}" for name, line in zip(names, told)), sep="\n")
@@ -82,7 +84,8 @@ def tried(opened: ProjectFile, starts: Sequence[int] | None, change: str, second
     return headline(file, one)[0] + describe_shift(opened, starts, file, one.starts)
 
 
-def describe_shift(was: ProjectFile, before: Sequence[int] | None, file: ProjectFile, after: Sequence[int] | None) -> str:
+def describe_shift(was: ProjectFile, before: Sequence[int] | None, file: ProjectFile,
+                   after: Sequence[int] | None) -> str:
     """How much sooner or later the project ends, by the clock, where there are dates."""
     first, last = end_date(was, before), end_date(file, after)
     if first is None or last is None:

@@ -43,7 +43,8 @@ def away(project: Numbers, resource: int, until: int) -> tuple[Stretch, ...]:
 
 def off(project: Numbers, resource: int) -> tuple[Stretch, ...]:
     """The times outside the hours of a resource."""
-    return tuple(Stretch(one.begins, one.ends, project.capacities[resource]) for one in project.off if one.resource == resource)
+    return tuple(Stretch(one.begins, one.ends, project.capacities[resource]) for one in project.off
+                 if one.resource == resource)
 
 
 def steps(uses: Iterable[tuple[int, int, int]]) -> tuple[Stretch, ...]:

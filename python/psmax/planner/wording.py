@@ -125,7 +125,8 @@ class Words:
 
     def deadline(self, value: int) -> str:
         if self.project.goal is Goal.LATENESS:
-            return f"nothing is more than {self.many(value)} late" if value >= 0 else f"all is {self.many(-value)} early"
+            late = self.many(abs(value))
+            return f"nothing is more than {late} late" if value >= 0 else f"all is {late} early"
         return f"the project ends by {self.by(value)}"
 
     def distance(self, limit: str, lag: int, before: int) -> str:
@@ -175,15 +176,16 @@ class Words:
     def too_far(self, activity: int, starts: Sequence[int]) -> str:
         """What ends when the hours of its resources are not known any more."""
         ends, known = on(self.opened.times(activity, starts[activity])[1]), self.by(self.project.horizon or 0)
-        return (f"{self.names.activity(activity)} ends {ends}, and the hours of what it needs are known up to {known}; a later "
-                "--horizon says more")
+        return (f"{self.names.activity(activity)} ends {ends}, and the hours of what it needs are known up to {known}; "
+                "a later --horizon says more")
 
     def nothing_within(self, bound: int | None) -> str:
         """What is said where no schedule is known that ends by the horizon, by what is proved."""
         horizon, is_makespan = self.project.horizon or 0, self.project.goal is Goal.MAKESPAN
         is_proved = is_makespan and bound is not None and bound > horizon
         return (f"the hours of resources are known up to {self.by(horizon)}, and no schedule "
-                + ("ends by then, which is proved; a later --horizon looks further, and `plan why` says what is in the way"
+                + ("ends by then, which is proved; a later --horizon looks further, and `plan why` says what is in the "
+                   "way"
                    if is_proved else "by then was found; a later --horizon looks further"))
 
     def broken(self, arc: Arc, starts: Sequence[int]) -> str:

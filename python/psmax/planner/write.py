@@ -53,8 +53,8 @@ class SheetOptions:
             except BadInput:
                 found = []
             if found != heads:
-                raise BadInput(f"{self.out} is there, and no table of these columns, and would be lost; name another file with "
-                               "--out")
+                raise BadInput(f"{self.out} is there, and no table of these columns, and would be lost; name another "
+                               "file with --out")
 
     def put(self, table: list[list[object]], opened: ProjectFile) -> None:
         """Into the file that is named, where another of the same columns may be, or to standard output."""
@@ -109,7 +109,8 @@ def write(opened: ProjectFile, given: str | None, sheet: SheetOptions, resource:
     lose_none(opened.inputs() | {"the answer": given or STANDARD_INPUT}, [sheet.out])
     suffix = pathlib.PurePath(sheet.out or "").suffix.lower()
     if total is not None and suffix != SUFFIX:
-        raise BadInput(f"--total is for a spreadsheet file, which --out names with {SUFFIX}; plan float has it for others")
+        raise BadInput(f"--total is for a spreadsheet file, which --out names with {SUFFIX}; plan float has it for "
+                       "others")
     if resource is not None and suffix != icalendar.SUFFIX and not is_daily:
         raise BadInput(f"--resource is for --daily, and for a calendar, which --out names with {icalendar.SUFFIX}")
     if is_daily and suffix not in (HTML, ""):
@@ -121,7 +122,8 @@ def write(opened: ProjectFile, given: str | None, sheet: SheetOptions, resource:
         put_text(DailyList(opened, known.starts, resource).page(pathlib.Path(opened.path).stem), sheet.out)
     elif suffix == icalendar.SUFFIX:
         must_be_like(sheet.out, icalendar.BEGIN, "calendar")
-        put_text(icalendar.calendar_text(opened, known.starts, resource, datetime.datetime.now(datetime.UTC)), sheet.out)
+        put_text(icalendar.calendar_text(opened, known.starts, resource, datetime.datetime.now(datetime.UTC)),
+                 sheet.out)
     elif suffix == SUFFIX:
         sys.stdout.write("".join(into_workbook(opened, known.starts, sheet.out or "", total)))
     elif suffix in (mspdi_sign.SUFFIX, xer_sign.SUFFIX):
