@@ -69,7 +69,7 @@ def with_value(data: bytes, before: str, after: str) -> bytes:
     old, made = zipfile.ZipFile(io.BytesIO(data)), io.BytesIO()
     with zipfile.ZipFile(made, "w") as new:
         for name in old.namelist():
-            part = old.read(name)
+            part = old.read(name).replace(b"<v />", b"<v></v>")  # as some versions of openpyxl write it
             new.writestr(name, part.replace(before.encode(), after.encode()) if name.endswith("sheet1.xml") else part)
     return made.getvalue()
 
