@@ -1,6 +1,7 @@
 """What a schedule and a project look like: as rows, as a chart, and in a notebook."""
 import base64
 from collections.abc import Iterable, Mapping
+from dataclasses import replace
 from html import escape
 from typing import TYPE_CHECKING
 
@@ -12,6 +13,7 @@ from .psmax import Psmax
 if TYPE_CHECKING:
     from .answer import Answer, Float, Question, Schedule
     from .planner.project_file import ProjectFile
+    from .planner.wording import Words
 
 MOST_ROWS = 60  # of a table in a notebook
 
@@ -55,6 +57,15 @@ def as_file(asked: "Question") -> "ProjectFile":
     names = Names(activities, [one.name for one in project.resources], unit, ids=project.ids if is_same else {})
     parts = project if is_same else None
     return ProjectFile("the project", asked.numbers, names, Settings(), asked.calendar, {}, parts=parts)
+
+
+def words_of(asked: "Question") -> "Words":
+    """As plan speaks of the project, by its names alone."""
+    from .planner.names import Names
+    from .planner.wording import Words
+    opened = as_file(asked)
+    names = Names({}, opened.names.resources, opened.names.unit, ids=opened.names.activities)
+    return Words(replace(opened, names=names))
 
 
 def chart_html(answer: "Answer") -> str:

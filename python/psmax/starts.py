@@ -1,5 +1,5 @@
 """Starts of a project by names, and what psmax says of them."""
-from collections.abc import Mapping
+from collections.abc import Mapping, Sequence
 from dataclasses import replace
 
 from .answer import Answer, Checked, Question, Schedule, Starts, Violation, ViolationKind, question
@@ -8,7 +8,7 @@ from .errors import BadInput
 from .history import Standing, alone, broken_alone
 from .known import Known
 from .letters import at_most, short
-from .model import Activity, Parts, must_be_a
+from .model import Activity, Parts, Resource, must_be_a
 from .periods import Time, first_time, whole
 from .project import MOST_UNITS, Goal, least_end
 from .psmax import Breach, Psmax
@@ -54,7 +54,7 @@ def must_keep_started(project: Parts, started: Mapping[Activity, int]) -> None:
     asked, fixed = question(project), {one.number: start for one, start in started.items()}
     starts = tuple(fixed.get(i, 0) for i in range(asked.numbers.end + 1))
     of_resources = replace(asked, numbers=alone(asked.numbers, fixed))
-    told = [named_violation(asked if one.kind == "lag" else of_resources, starts, one).text
+    told = [named_violations(asked if one.kind == "lag" else of_resources, starts, [one])[0]
             for one in broken_alone(asked.numbers, fixed)]
     if told:
         raise BadInput(*at_most([f"has started, but {fault}" for fault in told]))
@@ -81,7 +81,7 @@ def starts_of(asked: Question, starts: Starts) -> tuple[int, ...]:
 def check_starts(asked: Question, starts: Starts) -> Checked:
     found = starts_of(asked, starts)
     broken = Psmax(Clock(), CALLED).check(asked.numbers, found).violations
-    return Checked(Schedule(asked, found), tuple(named_violation(asked, found, one) for one in broken))
+    return Checked(Schedule(asked, found), named_violations(asked, found, broken))
 
 
 def feasible_starts(asked: Question, starts: Starts) -> tuple[int, ...]:
@@ -92,35 +92,27 @@ def feasible_starts(asked: Question, starts: Starts) -> tuple[int, ...]:
     return checked.schedule.starts
 
 
-def named_violation(asked: Question, starts: tuple[int, ...], one: Breach) -> Violation:
-    """The same by names, and as a sentence."""
-    names, numbers = ["the start", *(activity.name for activity in asked.activities), "the end"], asked.numbers
+def named_violations(asked: Question, starts: tuple[int, ...], found: Sequence[Breach]) -> tuple[Violation, ...]:
+    """The same by names, and as plan says them."""
+    from .look import words_of
+    words = words_of(asked)
+    return tuple(Violation(*subject_of(asked, starts, one), words.violation(one, starts)) for one in found)
+
+
+def subject_of(asked: Question, starts: tuple[int, ...],
+               one: Breach) -> tuple[ViolationKind, tuple[Activity, ...], Resource | None, int | None]:
+    """The kind, the activities, and of an overload the resource and the time."""
+    numbers, kind, resource, time = asked.numbers, ViolationKind.OVERLOAD, None, None
     if one.kind == "overload":
-        time, number, use = one.numbers
-        resource = asked.project.resources[number]
-        running = tuple(asked.activities[i - 1] for i in numbers.users(number, starts, time))
-        there = resource.capacity - numbers.away(number, time)
-        text = (f"at {time}, {use} units of {resource.name} are in use, of which there {'is' if there == 1 else 'are'} "
-                f"{there}: {', '.join(activity.name for activity in running)}")
-        return Violation(ViolationKind.OVERLOAD, running, resource, time, text)
-    if one.kind == "lag":
-        tail, head, lag = one.numbers
-        own = tuple(asked.activities[i - 1] for i in sorted({tail, head}) if 0 < i < numbers.end)
-        text = (f"{names[head]} starts at {starts[head]}, and must start at {starts[tail] + lag} or later, since "
-                f"{names[tail]} starts at {starts[tail]}")
-        return Violation(ViolationKind.LAG, own, None, None, text)
-    if one.kind == "dated":
-        dated = numbers.dated[one.numbers[0]]
-        first, last = dated.first, dated.last
-        text = (f"{names[last]} starts at {starts[last]}, and must start at {dated.limit(starts[first] + dated.base)} "
-                f"or {'later' if dated.is_least else 'sooner'}, since {names[first]} starts at {starts[first]}")
-        return Violation(ViolationKind.LAG, (asked.activities[first - 1], asked.activities[last - 1]), None, None, text)
-    if one.kind == "horizon":
-        late = asked.activities[one.numbers[0] - 1]
-        return Violation(ViolationKind.OVERLOAD, (late,), None, None,
-                         f"{late.name} ends behind {numbers.horizon}, up to which the hours of what it needs are known")
-    text = f"the project must start at 0, and starts at {one.numbers[0]}"
-    return Violation(ViolationKind.START, (), None, None, text)
+        time, number, _ = one.numbers
+        resource, own = asked.project.resources[number], numbers.users(number, starts, time)
+    elif one.kind == "horizon":
+        own = [*one.numbers]
+    else:
+        kind = ViolationKind.START if one.kind == "start" else ViolationKind.LAG
+        arc = numbers.dated[one.numbers[0]].arc if one.kind == "dated" else one.numbers
+        own = sorted({*arc[:2]}) if kind is ViolationKind.LAG else []
+    return kind, tuple(asked.activities[i - 1] for i in own if 0 < i < numbers.end), resource, time
 
 
 def answer_from(project: Parts, told: Mapping[str, object]) -> tuple[Question, Known, float]:

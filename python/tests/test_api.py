@@ -94,7 +94,7 @@ class Solving(InFolder):
         self.assertTrue(made.check({dig: 0, lift: 7}))
         kinds = [(one.kind, f"{one}") for one in made.check({"dig": 0, "lift": 2}).violations]
         self.assertEqual(kinds, [
-            (psmax.ViolationKind.LAG, "lift starts at 2, and must start at 4 or later, since dig starts at 0"),
+            (psmax.ViolationKind.LAG, "lift must start at least 1 after dig ends, and starts 1 before it does"),
             (psmax.ViolationKind.OVERLOAD, "at 2, 5 units of crew are in use, of which there are 4: dig, lift")])
         earliest = made.earliest()
         assert earliest is not None
@@ -160,7 +160,8 @@ class Solving(InFolder):
             (lambda: made.lag(dig.end, lift.start), "a lag has a least length, a greatest one, or both"),
             (lambda: made["gone"], "no activity 'gone'"),
             (lambda: made.check({"dig": 0}), "no start for activity 'lift'"),
-            (lambda: made.solve(start={dig: 0, lift: 0}), "not a schedule: lift starts at 0, and must start at 4"),
+            (lambda: made.solve(start={dig: 0, lift: 0}),
+             "not a schedule: lift must start at least 1 after dig ends, and starts 3 before it does"),
             (lambda: made.solve(seconds=0), "seconds: 0 is not a number above 0"),
             (lambda: made.solve(jobs=65), "jobs: 65 is not a whole number from 1 to 64"),
             (lambda: made.solve(proved_by="luck"), "proved_by luck: neither lemmas nor tree"),

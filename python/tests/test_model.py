@@ -260,7 +260,8 @@ class Looks(InFolder):
         made, *_ = site()
         told = made.solve(10, 1).to_dict()
         changes: list[tuple[dict[str, object], str]] = [
-            ({"starts": {"dig": 0, "lift": 1}}, "not a schedule: lift starts at 1"),
+            ({"starts": {"dig": 0, "lift": 1}}, "not a schedule: lift must start at least 1 after dig ends, and starts "
+             "2 before"),
             ({"status": "feasible"}, "by its starts and its bound it is 'optimal'")]
         for change, wanted in changes:
             with self.assertRaisesRegex(ValueError, wanted):

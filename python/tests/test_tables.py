@@ -63,8 +63,9 @@ class CalendarDays(InFolder):
                          ("unknown bound 7", "optimal 7"))
         self.assertEqual(made.why(6, 10, 1).status, "no schedule")
         told = [f"{one}" for one in made.check({pour: 0, wall: 5, gate: 0}).violations]
-        self.assertEqual(told, ["wall starts at 5, and must start at 6 or later, since pour starts at 0",
-                                "wall starts at 5, and must start at 4 or sooner, since gate starts at 0"])
+        starts = "and starts on 2026-03-09, which is 1 day too"
+        self.assertEqual(told, [f"wall must start at least 3 calendar days after pour ends, {starts} soon",
+                                f"wall must start at most 4 calendar days after gate ends, {starts} late"])
         del made["gate"]
         pour.duration = 4
         self.assertEqual(made.solve(10, 1, record=False).makespan, 6)
@@ -167,7 +168,7 @@ class Answers(InFolder):
                        now.replan(before.solve(10, 1, frozen=starts), "2026-03-04", 10, 1)):
             self.assertEqual((answer["a"].start, answer["b"].start, answer.status), (0, 5, "optimal"))
         now.lag(now["a"].end, now["b"].start, at_least=1)
-        for started, wanted in (({"a": 0, "b": 5}, "has started, but b starts at 5, and must start at 6 or later"),
-                                ({"a": 0, "b": 4}, "has started, but at 4, 2 units of crane are in use")):
+        for soon, wanted in ((5, "has started, but b must start at least 1 after a ends, and starts 0 after it does"),
+                             (4, "has started, but on 2026-03-06, 2 units of crane are in use")):
             with self.subTest(wanted), self.assertRaisesRegex(psmax.BadInput, wanted):
-                now.replan(starts, 6, 10, 1, started=started)
+                now.replan(starts, 6, 10, 1, started={"a": 0, "b": soon})
