@@ -225,8 +225,8 @@ def main() -> None:
     for option, title, _, name in PROGRAMS:
         parser.add_argument(f"--{option}", default=shutil.which(name), help=f"the program of the column {title}")
     o = parser.parse_args()
-    programs = [(title, run, measuring.path(getattr(o, option))) for option, title, run,
-                _ in PROGRAMS if getattr(o, option)]
+    programs = [(title, run, measuring.path(getattr(o, option)))
+                for option, title, run, _ in PROGRAMS if getattr(o, option)]
     measuring.heads("Project", *(title for title, _, _ in programs))
     for name, project in chosen_projects():
         if o.only in name:

@@ -34,8 +34,8 @@ class Finder:
 
     def loads(self) -> Iterator[Near]:
         for start, end in self.windows():
-            parts = [least_part(p, start, end, self.rows[0][i], self.rows[i][0]) for i,
-                     p in enumerate(self.project.durations)]
+            parts = [least_part(p, start, end, self.rows[0][i], self.rows[i][0])
+                     for i, p in enumerate(self.project.durations)]
             for k, capacity in enumerate(self.project.capacities):
                 load = sum(part * row[k] for part, row in zip(parts, self.project.demands))
                 yield Near(Push(Load(k, start, end), None), capacity * (end - start) + 1 - load)
@@ -86,8 +86,8 @@ def fixed(rng: random.Random, starts: Sequence[int]) -> list[Arc]:
     firsts = [(0, i, starts[i] - rng.randint(0, slack)) for i in some]
     lasts = [(i, 0, -starts[i] - rng.randint(0, slack)) for i in some]
     pairs = list(itertools.combinations(range(1, len(starts)), 2))
-    return firsts + lasts + [(i, j, starts[j] - starts[i]) for i,
-                             j in rng.sample(pairs, min(len(pairs), rng.randrange(3)))]
+    return firsts + lasts + [(i, j, starts[j] - starts[i])
+                             for i, j in rng.sample(pairs, min(len(pairs), rng.randrange(3)))]
 
 
 def shown_arcs(project: verify.Project, rng: random.Random, starts: Sequence[int]) -> list[Arc | None]:

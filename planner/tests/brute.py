@@ -35,8 +35,8 @@ class Small:
     def schedules(self) -> Iterator[tuple[int, ...]]:
         found: list[tuple[int, ...]] = [()]
         for last in range(len(self.days)):
-            lags = [(first, least, HORIZON if most is None else most) for first, own, least,
-                    most in self.lags if own == last]
+            lags = [(first, least, HORIZON if most is None else most)
+                    for first, own, least, most in self.lags if own == last]
             found = [(*starts, time) for starts in found for time in range(HORIZON)
                      if all(least <= time - starts[first] <= most for first, least, most in lags)]
         return filter(self.is_enough, found)

@@ -31,8 +31,8 @@ class Project:
                                           for line in data.decode().splitlines()]
         self.end = int(count) + 1
         lags = [[int(word) for word in line] for line in lines[: self.end + 1]]
-        self.arcs = [(line[0], head, lag) for line in lags for head,
-                     lag in zip(line[3 : 3 + line[2]], line[3 + line[2] :])]
+        self.arcs = [(line[0], head, lag) for line in lags
+                     for head, lag in zip(line[3 : 3 + line[2]], line[3 + line[2] :])]
         needs = [[int(word) for word in line[2:]] for line in lines[self.end + 1 : 2 * self.end + 2]]
         self.durations, self.demands = [line[0] for line in needs], [line[1:] for line in needs]
         self.capacities = [int(word) for word in lines[-1]] if int(resources) else []
@@ -181,8 +181,8 @@ def join(options: dict[str, str], data: bytes) -> int:
         lemmas += found["lemmas"]
         best += [found["starts"]] if found["starts"] else []
         refuted |= {name.strip("-")} if found["refuted"] else set()
-        if not found["refuted"] and not any(other.strip("-").startswith(name.strip("-")) for other,
-                                            *_ in rows[place + 1 :]):
+        if not found["refuted"] and not any(other.strip("-").startswith(name.strip("-"))
+                                            for other, *_ in rows[place + 1 :]):
             print(f"psprove: cube {name}: its log does not refute it", file=sys.stderr)
     is_whole = sum(0.5 ** len(name) for name in refuted) == 1
     least, end = max(Project(data).durations), min((starts[-1] for starts in best), default=None)

@@ -35,8 +35,8 @@ class Answers(InFolder):
                               (("06.03.2026", "11.03.2026", "Thu 12.03.26"), ()), ((0, "2026-03-11", 5), ()),
                               (("3/6/2026", "3/11/2026", "3/12/2026"), ("--dates", "mdy"))):
             with self.subTest(starts):
-                text = "name,start\n" + "".join(f"{name},{start}\n" for name,
-                                                start in zip(("lift", "bolt", "done"), starts))
+                text = "name,start\n" + "".join(f"{name},{start}\n"
+                                                for name, start in zip(("lift", "bolt", "done"), starts))
                 self.assertEqual(self.checked(text, *words), FIVE)
 
     def test_ends_are_not_read(self) -> None:

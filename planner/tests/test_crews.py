@@ -105,8 +105,8 @@ class Drawn:
         rows = ["activity,days,x (1; Mo-Fr),\"y (1, mon,wed,fri)\",after,at least,at most,may pause"]
         for i, (days, crew) in enumerate(zip(self.days, self.crews)):
             rows.append(f"{'abc'[i]},{days},{'1,' if crew == 'x' else ',1'},,,,yes")
-            rows += [f",,,,{'abc'[first]},0,{'' if most is None else most}," for first, last,
-                     most in self.lags if last == i]
+            rows += [f",,,,{'abc'[first]},0,{'' if most is None else most},"
+                     for first, last, most in self.lags if last == i]
         return "\n".join(rows) + "\n"
 
     def runs(self, i: int) -> dict[int, list[int]]:

@@ -160,8 +160,8 @@ class Answers(InFolder):
 
     def row(self, **more: object) -> dict[str, Any]:
         data = {kind: zlib.compress(kind.encode()) for kind in ("log", "lemmas")}
-        files = {kind: {"sha256": hashlib.sha256(kind.encode()).hexdigest(), "data": packed} for kind,
-                 packed in data.items()}
+        files = {kind: {"sha256": hashlib.sha256(kind.encode()).hexdigest(), "data": packed}
+                 for kind, packed in data.items()}
         return {"cube": "refuted", "starts": None, "pieces": [], "conflicts": 1, "record_bytes": 1, "seconds": 0.5,
                 "files": files} | more
 

@@ -33,8 +33,8 @@ def started_by(starts: Mapping[Key, int], now: int) -> dict[Key, int]:
 
 def alone(project: Numbers, started: Collection[int]) -> Numbers:
     """The project in which nothing else takes time."""
-    return replace(project, durations=tuple(length if i in started else 0 for i,
-                                            length in enumerate(project.durations)))
+    return replace(project, durations=tuple(length if i in started else 0
+                                            for i, length in enumerate(project.durations)))
 
 
 def broken_alone(project: Numbers, started: Mapping[int, int]) -> list[Breach]:

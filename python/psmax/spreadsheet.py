@@ -127,6 +127,17 @@ def sheet_of(book: Any, name: str | None, called: str) -> Any:
     return found
 
 
+def sheet_names(data: bytes, called: str) -> list[str]:
+    """Of all sheets, within the same limits as their cells."""
+    return limited(called, read_names, data, called).splitlines()
+
+
+def read_names(data: bytes, called: str) -> str:
+    openpyxl(called)
+    keep_limits()
+    return "\n".join(reader_of(data, called, read_only=True).wb.sheetnames)
+
+
 def as_csv(data: bytes, called: str, name: str | None = None) -> str:
     """The rows stand where they stand in the sheet. No limit on the bytes says how long openpyxl takes, so it has
     limits of its own."""

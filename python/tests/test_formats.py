@@ -132,8 +132,8 @@ class Formats(InFolder):
         for text in texts:
             self.assertEqual(faults(json.loads(text), schema, schema), [])
         self.assertNotEqual(faults({"format": json_text.KIND, "activities": [{"name": 1}]}, schema, schema), [])
-        parts = {"the project": schema, **{f"a{'n' * (name[0] in 'a')} {name}": one for name,
-                                           one in schema["$defs"].items()}}
+        parts = {"the project": schema, **{f"a{'n' * (name[0] in 'a')} {name}": one
+                                           for name, one in schema["$defs"].items()}}
         for what, (must, may) in json_text.KEYS.items():
             one = parts[what] if what in parts else schema["properties"][what.removeprefix("the ")]
             self.assertEqual(({*one["required"]}, {*one["properties"]}), (must, must | may), what)

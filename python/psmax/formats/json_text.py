@@ -118,8 +118,8 @@ def read_activity(one: Object, project: Parts, resources: Mapping[str, Resource]
         raise BadInput("'demands' is no object")
     name = as_text(one["name"], "the name of an activity")
     project.activity(name, integer(one["duration"], f"the duration of {short(name)}"),
-                     {find_resource(key, resources): integer(units, f"the demand of {short(name)}") for key,
-                      units in needs.items()},
+                     {find_resource(key, resources): integer(units, f"the demand of {short(name)}")
+                      for key, units in needs.items()},
                      integer(one["due"], f"when {short(name)} is due") if "due" in one else None)
 
 

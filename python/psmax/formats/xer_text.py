@@ -1,5 +1,6 @@
 """A project as a .xer file of Primavera P6, and a schedule in such a file that is there already."""
 import datetime
+import io
 from collections.abc import Iterable, Mapping
 
 from ..answer import Schedule
@@ -25,6 +26,7 @@ STAMP = "%Y-%m-%d %H:%M"
 BEGINS = {"TASK": ("early_start_date", "target_start_date", "restart_date"),
           "TASKRSRC": ("target_start_date", "restart_date")}
 FINISHES = {"TASK": ("early_end_date", "target_end_date", "reend_date"), "TASKRSRC": ("target_end_date", "reend_date")}
+NEW = {*BEGINS, "PROJECT"}  # the tables that get dates
 UTF_16 = (b"\xff\xfe", b"\xfe\xff")
 Cells = Mapping[str, object]
 
@@ -169,26 +171,30 @@ def assignments(project: Parts, minutes: int) -> Iterable[Cells]:
 
 
 def replanned(data: bytes, schedule: Schedule) -> bytes:
-    """The same file with the starts of a schedule of it in what has not started. All else stays, byte for byte."""
+    """The same file with the starts of a schedule of it in what has not started. All else stays, byte for byte, and is
+    not even split into cells."""
     if data.startswith(UTF_16):
         raise BadInput("the file is in UTF-16, in which Primavera writes none")
     document = XerDocument(read_tables(decoded(data)))
     times, project = times_of(document, schedule), cell_of(document.project, "proj_id")
-    lines, columns, name = data.split(b"\n"), dict[str, int](), ""
-    for place, line in enumerate(lines):
-        cells = line.removesuffix(b"\r").split(b"\t")
-        mark, told = cells[0].decode("latin-1"), [one.decode("latin-1").strip() for one in cells]
-        if mark == LAST:
-            break
-        if mark == TABLE:
-            name = told[1] if len(told) > 1 else ""
-        elif mark == COLUMNS:
-            columns = {one: number for number, one in enumerate(told) if number}
-        elif mark == CELLS:
-            row = {one: told[number] for one, number in columns.items() if number < len(told)}
-            put_cells(cells, columns, new_dates(name, row, times, project))
-            lines[place] = b"\t".join(cells) + b"\r" * line.endswith(b"\r")
-    return b"\n".join(lines)
+    made, columns, name, is_over = io.BytesIO(), list[str](), "", False
+    for line in io.BytesIO(data):
+        mark = line[:3].rstrip(b"\t\r\n").decode("latin-1")
+        is_over = is_over or mark == LAST
+        if mark == TABLE and not is_over:
+            name = "".join(texts_of(line.split(b"\t", 2)[1:2]))
+        elif name in NEW and mark in (COLUMNS, CELLS) and not is_over:
+            cells = line.rstrip(b"\r\n").split(b"\t")
+            columns = texts_of(cells) if mark == COLUMNS else columns
+            row = {} if mark == COLUMNS else dict(zip(columns[1:], texts_of(cells)[1:]))
+            put_cells(cells, columns, new_dates(name, row, times, project) if row else {})
+            line = b"\t".join(cells) + line[len(line.rstrip(b"\r\n")) :]
+        made.write(line)
+    return made.getvalue()
+
+
+def texts_of(cells: Iterable[bytes]) -> list[str]:
+    return [one.decode("latin-1").strip() for one in cells]
 
 
 def times_of(document: XerDocument, schedule: Schedule) -> dict[str, tuple[str, str]]:
@@ -216,9 +222,9 @@ def new_dates(name: str, row: Mapping[str, str], times: Mapping[str, tuple[str, 
     return dict.fromkeys(BEGINS[name], begins) | dict.fromkeys(FINISHES[name], ends)
 
 
-def put_cells(cells: list[bytes], columns: Mapping[str, int], new: Mapping[str, str]) -> None:
+def put_cells(cells: list[bytes], columns: list[str], new: Mapping[str, str]) -> None:
     """Into the columns that are there."""
-    for name, text in new.items():
-        if name in columns:
-            cells += [b""] * (columns[name] + 1 - len(cells))
-            cells[columns[name]] = text.encode()
+    for name in new.keys() & {*columns[1:]}:
+        place = columns.index(name, 1)
+        cells += [b""] * (place + 1 - len(cells))
+        cells[place] = new[name].encode()

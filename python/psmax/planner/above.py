@@ -139,5 +139,5 @@ CHECKS: Mapping[str, Callable[[str, str | None], object]] = {
     "from": read_moment, "status": must_be_time, "horizon": must_be_time,
     "workdays": lambda text, *_: read_workdays(text), "shift": lambda text, *_: read_shift(text),
     "period": lambda text, *_: must_be_period(text), "zone": lambda text, *_: zone(text),
-    "dates": lambda text, *_: checked(Settings(dates=text)), "minimize": lambda text,
-    *_: checked(Settings(minimize=text))}
+    "dates": lambda text, *_: checked(Settings(dates=text)),
+    "minimize": lambda text, *_: checked(Settings(minimize=text))}

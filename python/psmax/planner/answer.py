@@ -104,8 +104,8 @@ def tie(opened: ProjectFile, given: AnswerText) -> Tied:
         known = inner if given.is_table else range(project.end + 1)
         gone = {number: f"activity {number}" for number in given.starts if number not in known}
     starts = {0: time(opened, 0, given.starts[0], given) if 0 in given.starts else 0}
-    starts |= {pairs[was]: time(opened, pairs[was], begin, given) for was,
-               begin in given.starts.items() if was in pairs}
+    starts |= {pairs[was]: time(opened, pairs[was], begin, given)
+               for was, begin in given.starts.items() if was in pairs}
     starts[project.end] = read_end(opened, given, starts)
     return Tied(starts, [number for number in inner if number not in starts], gone, pairs)
 

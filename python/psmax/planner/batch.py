@@ -154,8 +154,8 @@ def search_all(wanted: Batch, left: Sequence[Task], clock: Clock) -> Rows:
 def outputs(task: Task, wanted: Batch) -> list[tuple[str, str]]:
     """The files that a search writes, each behind its option."""
     folders = ("--out", wanted.out, ".starts"), ("--record", wanted.record, ".rec")
-    return [(option, os.path.join(folder, task.stem + suffix)) for option, folder,
-            suffix in folders if folder is not None]
+    return [(option, os.path.join(folder, task.stem + suffix))
+            for option, folder, suffix in folders if folder is not None]
 
 
 def search_row(task: Task, wanted: Batch, clock: Clock) -> Row | None:

@@ -151,8 +151,8 @@ def columns(file: ProjectFile) -> list[str]:
     found = file.table.columns if file.table is not None else None
     if found is None:
         return []
-    said = {place: f"resource, {count_of(units, 'unit')}" for place,
-            units in zip(found.resources, file.project.capacities)}
+    said = {place: f"resource, {count_of(units, 'unit')}"
+            for place, units in zip(found.resources, file.project.capacities)}
     said |= {place: kind.value for place, kind in enumerate(map(column_of, found.heads)) if kind and place not in said}
     heads = [(place, head) for place, head in enumerate(found.heads) if head]
     wide = max(len(head) for _, head in heads)

@@ -241,8 +241,8 @@ class Reading:
 
     def lags(self, cuts: Cuts | None) -> Lags:
         names = {row.cell(Column.NAME): self.parts[place] for place, row in reversed(self.groups.items())}
-        ids = {row.cell(Column.ID).casefold(): self.parts[place] for place,
-               row in self.groups.items() if row.cell(Column.ID)}
+        ids = {row.cell(Column.ID).casefold(): self.parts[place]
+               for place, row in self.groups.items() if row.cell(Column.ID)}
         activities = Activities(self.names, self.ids(), names, ids, self.durations, self.planned)
         if cuts is not None:
             cuts.name(activities)

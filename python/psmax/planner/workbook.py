@@ -8,7 +8,7 @@ from typing import Any
 
 from ..errors import BadInput
 from ..files import SPREADSHEET, read_bytes, read_text, read_there, write_whole
-from ..spreadsheet import openpyxl, reader_of, sheet_of, workbook
+from ..spreadsheet import openpyxl, sheet_names, sheet_of, workbook
 from ..total import TotalFloat
 from . import workbook_chart
 from .columns import is_head
@@ -178,8 +178,5 @@ def lost(before: bytes, after: bytes) -> list[str]:
 def must_be_own_book(out: str) -> None:
     """A file that is there is one that was written so."""
     there = read_there(out)
-    if there.strip():
-        book = reader_of(there, out, read_only=True).wb if there.startswith(SPREADSHEET) else None
-        if book is None or not workbook_chart.is_ours(book):
-            raise BadInput(f"{out} is there, and was not written by plan, and would be lost; name another file with "
-                           "--out")
+    if there.strip() and workbook_chart.TITLE not in (sheet_names(there, out) if there.startswith(SPREADSHEET) else ()):
+        raise BadInput(f"{out} is there, and was not written by plan, and would be lost; name another file with --out")

@@ -59,13 +59,9 @@ def has_work(calendar: Calendar, day: datetime.date) -> bool:
     return calendar.begins(first) < at_midnight(day) + DAY
 
 
-def is_ours(book: Any) -> bool:
-    return TITLE in book.sheetnames
-
-
 def draw_sheet(book: Any, opened: ProjectFile, starts: tuple[int, ...], total: TotalFloat | None, title: str) -> None:
     """In place of the one that was drawn before."""
-    if is_ours(book):
+    if TITLE in book.sheetnames:
         del book[TITLE]
     critical = total.critical() if total is not None else ()
     known = drawing.Details(critical=critical, started=[*opened.progress.started])
