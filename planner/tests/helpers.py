@@ -17,6 +17,7 @@ from unittest import mock
 
 from psmax.clock import ENDS
 from psmax.planner.main import main
+from psmax.planner.options import parser_of
 
 from . import copied
 
@@ -50,6 +51,7 @@ TELLS = [{"bound": 4}, {"bound": 4, "starts": LONG}, {"bound": 4, "starts": SHOR
 
 
 Ran = subprocess.CompletedProcess[str]
+PARSER_OF = functools.cache(parser_of)  # of which a process makes one alone
 
 
 def plan(*words: object, given: bytes = b"", psmax: str = PSMAX, psprove: str = PSPROVE) -> Ran:
@@ -59,6 +61,7 @@ def plan(*words: object, given: bytes = b"", psmax: str = PSMAX, psprove: str = 
     handlers = {number: signal.getsignal(number) for number in ENDS}
     with (mock.patch("sys.stdin", source), mock.patch("sys.stdout", out), mock.patch("sys.stderr", told),
           mock.patch.dict(os.environ, {"PSMAX": psmax, "PSPROVE": psprove}),
+          mock.patch("psmax.planner.options.parser_of", PARSER_OF),
           mock.patch("psmax.planner.batch.begin_solve", copied.begin)):
         try:
             status = main([*map(str, words)])

@@ -164,8 +164,8 @@ class Hours(unittest.TestCase):
         """By hand, from Friday 6 March 2026 at noon on: nights of Monday to Friday are Friday 18:00 to Saturday 06:00,
         which is 6 to 18, and Monday 18:00, 72 hours after the last."""
         calendar = Moments(datetime.datetime(2026, 3, 6, 12), 60)
-        self.assertEqual(off_times(read_hours("Mo-Fr nights"), calendar, 0, 100), [(0, 6), (18, 78), (90, 100)])
-        self.assertEqual(off_times(read_hours("nights"), calendar, 20, 50), [(20, 30), (42, 50)])
+        self.assertEqual(off_times(read_hours("Mo-Fr nights"), calendar, 0, 100), ((0, 6), (18, 78), (90, 100)))
+        self.assertEqual(off_times(read_hours("nights"), calendar, 20, 50), ((20, 30), (42, 50)))
         with self.assertRaises(ValueError):
             off_times(read_hours("06:30-14:30"), calendar, 0, 100)
 

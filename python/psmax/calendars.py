@@ -237,8 +237,8 @@ class Shifts(Calendar):
     def __init__(self, first: datetime.datetime, minutes: int, days: Days, shift: Sequence[tuple[int, int]]) -> None:
         self.first, self.minutes, self.days, self.shift = first, minutes, days, shift
         self.slots = [begins for part in shift for begins in range(part[0], part[1], minutes)]
-        early = [slot for slot in self.slots if at_midnight(days.day(0)) + as_timedelta(slot) < first]
-        self.skipped = len(early)  # periods of the first day that are over when the project begins
+        of_day = (first - at_midnight(days.day(0))) / MINUTE
+        self.skipped = bisect_left(self.slots, of_day)  # periods of the first day that are over when the project begins
 
     def slot(self, time: int) -> datetime.datetime:
         day, slot = divmod(time + self.skipped, len(self.slots))
@@ -260,7 +260,7 @@ class Shifts(Calendar):
         """How many periods begin so many minutes before the moment, or sooner."""
         place = self.days.place(moment.date())
         is_workday = self.days.day(place) == moment.date()
-        of_day = (moment - at_midnight(moment.date())) / datetime.timedelta(minutes=1)
+        of_day = (moment - at_midnight(moment.date())) / MINUTE
         today = bisect_left(self.slots, of_day - minutes) if is_workday else 0
         return place * len(self.slots) + today - self.skipped
 

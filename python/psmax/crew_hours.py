@@ -3,6 +3,7 @@ import datetime
 import re
 from collections.abc import Collection, Iterator, Mapping, Sequence
 from dataclasses import dataclass, replace
+from functools import lru_cache
 
 from .calendars import DAY, Calendar, Days, Shifts, at_midnight, as_timedelta
 from .dates import MIDNIGHT, SHORT_DAYS, SPAN, read_workdays, span_text
@@ -84,7 +85,8 @@ def is_within(hours: Hours, calendar: Calendar) -> bool:
     return True
 
 
-def off_times(hours: Hours, calendar: Calendar, now: int, until: int) -> list[Stretch]:
+@lru_cache(maxsize=100)
+def off_times(hours: Hours, calendar: Calendar, now: int, until: int) -> tuple[Stretch, ...]:
     """The times outside them. ValueError where they begin or end within a period."""
     first, last = (calendar.begins(time).date() for time in (now, until))
     found, time = list[Stretch](), now
@@ -93,7 +95,7 @@ def off_times(hours: Hours, calendar: Calendar, now: int, until: int) -> list[St
         if begin < end:
             found += [(time, begin)] if time < begin else []
             time = max(time, end)
-    return found + ([(time, until)] if time < until else [])
+    return (*found, *([(time, until)] if time < until else []))
 
 
 def time_at(calendar: Calendar, moment: datetime.datetime, hours: Hours) -> int:

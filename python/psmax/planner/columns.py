@@ -10,7 +10,7 @@ from ..dates import is_dated
 from ..errors import BadInput
 from ..letters import short
 from ..project import MOST_RESOURCES, MOST_UNITS
-from .csv_text import Sheet, cell
+from .csv_text import MOST_COLUMNS, Sheet, cell
 from .faults import Faults, fault_at
 from .quantities import WORDS, Unit
 
@@ -161,6 +161,7 @@ def is_own(sheet: Sheet, place: int) -> bool:
     return is_words and head not in ELSEWHERE and "(" not in head and not like(head)
 
 
+@lru_cache(maxsize=MOST_COLUMNS)
 def like(head: str) -> str:
     """The name of a column that a head may be meant for."""
     from difflib import get_close_matches

@@ -71,7 +71,7 @@ def why_inexact(crews: Crews) -> str:
     until = crews.after(crews.now, SPANS[0])
     for hours in crews.hours.values():
         try:
-            if off_times(hours, crews.calendar, crews.now, until) == [(crews.now, until)]:
+            if off_times(hours, crews.calendar, crews.now, until) == ((crews.now, until),):
                 return f"'{short(hours.text)}': no such hour is one of the project's within {SPANS[0]} days"
         except ValueError as fault:
             return f"{fault}"

@@ -8,7 +8,7 @@ from fractions import Fraction
 
 from ..dated import ODD_DAYS, DatedLag, are_days
 from ..dates import is_dated
-from ..letters import short
+from ..letters import MOST_TOLD, short
 from ..model import Group
 from ..project import MOST_UNITS, Arc
 from .columns import Column
@@ -20,7 +20,6 @@ START = "start"  # the start of the project, as something to come after
 START_OF = "start of "  # before a name: its start, and not its end
 WITH = "with "  # before a name: start to start, with lags 0 and 0
 ANY = "any"  # no minimum lag
-MOST_COMPARED = 100  # unknown names that are compared with all names
 QUOTED = re.compile(r'\s*(?:"((?:[^"]|"")*)"\s*|([^;]*))(?:;|$)')
 GERMAN = {"EA": "FS", "AA": "SS", "EE": "FF", "AE": "SF"}
 LINK = re.compile(r"(.*?)\s*(?:(FS|SS|FF|SF|EA|AA|EE|AE)\s*([-+][^<\u2264]*)?(?:(?:<=?|\u2264)(.*))?)?", re.I)
@@ -250,7 +249,7 @@ def no_activity(activities: Activities, name: str) -> str:
         return "a name is missing beside a ';'"
     if all(part.strip() in activities.names for part in name.split(",")):
         return f"no activity '{short(name)}'; between names stands ';', and not ','"
-    if name not in activities.unknown and len(activities.unknown) < MOST_COMPARED:
+    if name not in activities.unknown and len(activities.unknown) < MOST_TOLD:
         activities.unknown[name] = did_you_mean(name, [*activities.names, *activities.groups])
     return f"no activity '{short(name)}'{activities.unknown.get(name, '')}"
 
