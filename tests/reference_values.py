@@ -156,7 +156,7 @@ def edits(program: pathlib.Path, row: Row) -> Iterator[Verdict]:
         wrong_row = {**row, head: changed(row[head])}
         yield f"a changed {head}", None if record_fault(program, wrong_row) else "it is not found by the record"
     for head in ("project", "activities", "arcs"):
-        is_found = text_fault({**row, head: changed(row[head])}) is not None
+        is_found = bool(text_fault({**row, head: changed(row[head])}))
         yield f"a changed {head}", None if is_found else "it is not found by the text"
 
 

@@ -54,11 +54,6 @@ def to_json(told: object) -> str:
     return text.replace("True", "true").replace("False", "false")
 
 
-def of_json(text: str) -> Row:
-    found: Row = eval(text, {"null": None, "true": True, "false": False})
-    return found
-
-
 def numbers(path: str | None) -> Arcs:
     return [[int(word) for word in line.split()] for line in read(path).splitlines()] if path else []
 
@@ -158,7 +153,8 @@ def fault(log: str, data: bytes, arcs: Arcs, imported: Arcs, lemmas: list[Arcs])
     text = read(log)
     if not text.endswith("}\n"):
         return "event 1 is wrong"
-    row: Row = of_json(text.removeprefix("record 3\n"))
+    import json  # for a join alone, of which there are few
+    row: Row = json.loads(text.removeprefix("record 3\n"))
     told = [[line[place : place + 3] for place in range(1, len(line), 3)] for line in imported]
     is_right = row["project"] == zlib.crc32(data) and row["path"] == arcs and row["import"] == imported
     return row if is_right and all(lemma in lemmas for lemma in told) else "its log does not refute it"

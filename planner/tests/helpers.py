@@ -61,7 +61,7 @@ def plan(*words: object, given: bytes = b"", psmax: str = PSMAX, psprove: str = 
     handlers = {number: signal.getsignal(number) for number in ENDS}
     with (mock.patch("sys.stdin", source), mock.patch("sys.stdout", out), mock.patch("sys.stderr", told),
           mock.patch.dict(os.environ, {"PSMAX": psmax, "PSPROVE": psprove}),
-          mock.patch("psmax.planner.options.parser_of", PARSER_OF),
+          mock.patch("psmax.planner.options.parser_of", PARSER_OF), mock.patch("psmax.process.tied", list),
           mock.patch("psmax.planner.batch.begin_solve", copied.begin)):
         try:
             status = main([*map(str, words)])

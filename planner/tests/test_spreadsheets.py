@@ -12,6 +12,7 @@ from unittest import mock
 from psmax.errors import BadInput
 from psmax.spreadsheet import as_csv
 
+from . import copied
 from .browser import DEBIAN
 from .helpers import InFolder, plan
 
@@ -149,6 +150,13 @@ class Written(InFolder):
         ran = plan("write", path, self.answer, "--out", self.out)
         self.assertEqual(ran.returncode, 0, ran.stderr)
         return openpyxl.load_workbook(self.out)
+
+    def test_what_lies_there(self) -> None:
+        """A stranger's file at --out is looked at by a process with limits, of which there is no other here."""
+        there, table = self.file("there.xlsx", saved(book())), self.file("p.csv", CSV)
+        with mock.patch("psmax.process_limits.begin", side_effect=copied.begin_answer) as begun:
+            self.refused(plan("write", table, self.answer, "--out", there), 2, "there.xlsx is there, and was not")
+        self.assertEqual(begun.call_count, 1)
 
     def test_beside_his_own(self) -> None:
         made = self.written(self.table)

@@ -188,6 +188,11 @@ class Written(InFolder):
         checked = hall.check(STARTS)
         self.assertTrue(checked)
         planned = xer_text.replanned(data, checked.schedule)
+        notes = b"%T\tNOTE\n%F\tnote_id\ttask_id\r\n%R\t1\r\n%R\n%X\todd\r\n\r\n\n\n%T\tTASKNOTE\n%R\t\t\n"
+        begin, end = data[: data.index(b"%T")], data[data.index(b"%T") :]
+        behind = data[data.index(b"%T\tTASK\r") : data.index(b"%E")]
+        self.assertEqual(xer_text.replanned(begin + notes + end + behind, checked.schedule),
+                         planned.replace(begin, begin + notes, 1) + behind)
         lines = zip(data.split(b"\n"), planned.split(b"\n"), strict=True)
         pairs = [(old.split(b"\t"), new.split(b"\t")) for old, new in lines]
         moved = {new[8] for old, new in pairs if old != new and b"TK_NotStart" in new}
