@@ -95,6 +95,37 @@ def job_shop(jobs: int, machines: int, seed: int) -> Project:
     return Project(durations + [0], demands + [[0] * machines], [1] * machines, arcs)
 
 
+def groups(seed: int) -> Project:
+    """A small project of three to five jobs, whose operations follow each other with no wait, or little, on two to four
+    machines, some of which take two at a time."""
+    rng = random.Random(seed)
+    capacities = [1 if rng.random() < 0.8 else 2 for _ in range(rng.randint(2, 4))]
+    kind, machines = rng.randrange(5), range(len(capacities))
+    durations, demands, arcs = [0], [[0] * len(capacities)], list[Arc]()
+    jobs = rng.randint(3, 5)
+    for _ in range(jobs):
+        route = list(machines)
+        if kind in (1, 3):
+            rng.shuffle(route)
+        if kind == 4:
+            route = [rng.choice(machines) for _ in range(rng.randint(1, 4))]
+        for place, machine in enumerate(route):
+            if place:
+                lag = max(0, durations[-1] + rng.choice([0, 0, 0, -1, 1, 2]))
+                play = 0 if kind in (0, 1) else rng.randint(0, 4)
+                i = len(durations)
+                arcs += [(i - 1, i, lag), (i, i - 1, -lag - play)]
+            durations.append(rng.randint(1, 9))
+            demands.append([rng.randint(1, capacities[machine]) if k == machine else 0 for k in machines])
+            if rng.random() < 0.2:
+                demands[-1][rng.choice(machines)] = 1
+        if rng.random() < 0.2:
+            arcs.append((0, len(durations) - 1, rng.randint(1, 12)))
+        if rng.random() < 0.15:
+            arcs.append((len(durations) - 1, 0, -rng.randint(10, 40)))
+    return Project([*durations, 0], [*demands, [0] * len(capacities)], capacities, arcs)
+
+
 def words(page: str | None) -> argparse.ArgumentParser:
     """The words of a script that makes a project of N activities."""
     parser = argparse.ArgumentParser(description=page, formatter_class=argparse.RawDescriptionHelpFormatter)

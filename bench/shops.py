@@ -1,9 +1,10 @@
 #!/usr/bin/env python3
-"""bench/shops.py NAME [--seeds TIMES MACHINES] [--open] [--wait W] > PROJECT.sch
+"""bench/shops.py NAME [--seeds TIMES MACHINES] [--open | --flow] [--wait W] > PROJECT.sch
 
 Writes a job shop, or with `--open` an open shop, as a project: an operation is an activity, a machine a resource of
-capacity 1. An open shop has a resource for each job too, and its operations come in any order. With `--wait W` an
-operation starts at most W periods after the one before it in its job has ended: 0 is no wait at all.
+capacity 1. An open shop has a resource for each job too, and its operations come in any order. With `--flow` all jobs
+go through the machines in one order. With `--wait W` an operation starts at most W periods after the one before it in
+its job has ended: 0 is no wait at all.
 
 NAME is a shop of bench/shop_data.py: ft06, ft10 and ft20 (Fisher and Thompson 1963), la01 to la20 (Lawrence 1984), ta01
 to ta20 (Taillard 1993), his open shops tai4_1 to tai7_10; or JOBSxMACHINES, such as 20x15. Shops of the last three
@@ -57,6 +58,11 @@ def named(name: str, seeds: tuple[int, int] = (1, 2)) -> Shop:
     return generated(int(sizes[1]), int(sizes[2]), *seeds)
 
 
+def in_one_order(shop: Shop) -> Shop:
+    """The flow shop of the same times."""
+    return [sorted(row) for row in shop]
+
+
 def project(shop: Sequence[Sequence[Operation]], is_open: bool = False, wait: int | None = None) -> Project:
     """A shop as a project. Its activities are the operations, job after job."""
     machines = 1 + max(step.machine for row in shop for step in row)
@@ -82,12 +88,15 @@ def main() -> None:
     parser = argparse.ArgumentParser(description=__doc__, formatter_class=argparse.RawDescriptionHelpFormatter)
     parser.add_argument("name")
     parser.add_argument("--seeds", type=int, nargs=2, default=[1, 2], metavar=("TIMES", "MACHINES"))
-    parser.add_argument("--open", action="store_true")
+    form = parser.add_mutually_exclusive_group()
+    form.add_argument("--open", action="store_true")
+    form.add_argument("--flow", action="store_true")
     parser.add_argument("--wait", type=int)
     o = parser.parse_args()
     if o.wait is not None and (o.wait < 0 or o.open):
         parser.error("a wait is 0 or more, and an open shop has none")
-    sys.stdout.buffer.write(project(named(o.name, (o.seeds[0], o.seeds[1])), o.open, o.wait).text())
+    shop = named(o.name, (o.seeds[0], o.seeds[1]))
+    sys.stdout.buffer.write(project(in_one_order(shop) if o.flow else shop, o.open, o.wait).text())
 
 
 if __name__ == "__main__":

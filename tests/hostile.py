@@ -18,8 +18,8 @@ import projects
 import verify
 from harness import Verdict, Verdicts
 from log_bytes import framed, number, of_arc, of_event, of_line
-from verify_log import MAX_ARCS, MAX_TIME, MAX_WEIGHT, SLOTS, TITLE, Arc, Claim, Clique, Drop, Event, Force, Line, Load
-from verify_log import Push, Use
+from verify_log import MAX_ARCS, MAX_BYTES, MAX_TIME, MAX_WEIGHT, SLOTS, TITLE, Arc, Claim, Clique, Drop, Event, Force
+from verify_log import Interval, Line, Load, Push, Tour, Use
 
 LONG = 1_000  # periods of each activity
 
@@ -55,6 +55,12 @@ def lemma_of(slot: int, arcs: Sequence[Arc], lines: bytes) -> bytes:
     return framed(b"".join(map(number, numbers)) + lines)
 
 
+def pieces(size: int) -> list[int]:
+    """So many bytes of lines, for as few lemmas as may have them."""
+    count = size // (MAX_BYTES * 9 // 10) + 1
+    return [size // count] * count
+
+
 def bound(value: int) -> bytes:
     return text_of(Claim(f"bound {value}"))
 
@@ -87,8 +93,15 @@ def wide_lemma(size: int) -> Text:
     n = 60
     implied = [(i, j, -MAX_WEIGHT) for i in range(1, n) for j in range(1, n)][:MAX_ARCS - 2]
     first = lemma_of(0, [*implied, *first_not_second(1, 2)], lines_of([Force(1, 2)]))
-    second = lemma_of(1, [(1, 2, 1 - LONG), *first_not_second(3, 4)], bytes(size) + lines_of([Force(3, 4)]))
-    return Text(crowd(n), log_of([first, second, bound(LONG)]), f"proved bound {LONG}")
+    arcs, force = [(1, 2, 1 - LONG), *first_not_second(3, 4)], lines_of([Force(3, 4)])
+    others = (lemma_of(slot, arcs, bytes(part) + force) for slot, part in enumerate(pieces(size), 1))
+    return Text(crowd(n), log_of([first, *others, bound(LONG)]), f"proved bound {LONG}")
+
+
+def long_event(size: int) -> Text:
+    """A lemma of lines that are not looked at; of more bytes than it may have, if that is so many."""
+    lemma = lemma_of(0, first_not_second(1, 2), lines_of([Force(1, 2)]) + bytes(size))
+    return Text(crowd(3), log_of([lemma, bound(LONG)]), "event 1: long" if size > MAX_BYTES else f"proved bound {LONG}")
 
 
 def many_arcs(size: int) -> Text:
@@ -99,9 +112,10 @@ def many_arcs(size: int) -> Text:
     lemmas = [lemma_of(slot, arcs, lines_of([Force(*pair)])) for slot, (arcs, pair) in enumerate(made)]
     known = [(a, b, 1 - LONG) for a, b in pairs]
     shown = b"".join(number(8 * slot) for slot in range(len(made)))
-    lines = shown + bytes(size * 3 // 4 - len(shown)) + lines_of([Force(8, 7)])
-    last = lemma_of(SLOTS - 1, [*known, *first_not_second(7, 8)], lines)
-    return Text(crowd(n), log_of([*lemmas, last, bound(LONG)]), f"proved bound {LONG}")
+    arcs, force = [*known, *first_not_second(7, 8)], lines_of([Force(8, 7)])
+    parts = enumerate(pieces(size * 3 // 4))
+    last = (lemma_of(SLOTS - 1 - k, arcs, shown + bytes(part - len(shown)) + force) for k, part in parts)
+    return Text(crowd(n), log_of([*lemmas, *last, bound(LONG)]), f"proved bound {LONG}")
 
 
 def many_roots(size: int) -> Text:
@@ -130,20 +144,23 @@ def huge_cliques(size: int) -> Text:
     """All activities run before the last one ends, and one at a time. Each line shows one period more."""
     n = 200
     members, first = list(range(1, n + 1)), LONG + 1
-    count = size // len(lines_of([Push(Clique(0, first, members), (0, n, first))]))
-    lines = lines_of(Push(Clique(0, v - 1 + LONG, members), (0, n, v)) for v in range(first, first + count))
-    lemma = lemma_of(0, first_not_second(1, 2), lines + lines_of([Force(1, 2)]))
-    return Text(crowd(n, before_last(n)), log_of([lemma, bound(2 * LONG)]), f"proved bound {2 * LONG}")
+    parts, each = pieces(size), len(lines_of([Push(Clique(0, first, members), (0, n, first))]))
+    lines = lines_of(Push(Clique(0, v - 1 + LONG, members), (0, n, v)) for v in range(first, first + parts[0] // each))
+    lines += lines_of([Force(1, 2)])
+    lemmas = (lemma_of(slot, first_not_second(1, 2), lines) for slot in range(len(parts)))
+    return Text(crowd(n, before_last(n)), log_of([*lemmas, bound(2 * LONG)]), f"proved bound {2 * LONG}")
 
 
 def wide_loads(size: int) -> Text:
     """The same by loads. Those of every other line are in a window as wide as it may be, and of no use."""
     n = 60
-    first, count = LONG + 1, min(size // 30, (n - 2) * LONG)
+    first, parts = LONG + 1, pieces(size)
+    count = min(parts[0] // 30, (n - 2) * LONG)
     lines = [[Push(Load(0, 0, v - 1 + LONG), (0, n, v)), Push(Load(0, -MAX_TIME, MAX_TIME), (0, n, v))]
              for v in range(first, first + count)]
-    lemma = lemma_of(0, first_not_second(1, 2), b"".join(map(lines_of, lines)) + lines_of([Force(1, 2)]))
-    return Text(crowd(n, before_last(n)), log_of([lemma, bound(2 * LONG)]), f"proved bound {2 * LONG}")
+    shown = b"".join(map(lines_of, lines)) + lines_of([Force(1, 2)])
+    lemmas = (lemma_of(slot, first_not_second(1, 2), shown) for slot in range(len(parts)))
+    return Text(crowd(n, before_last(n)), log_of([*lemmas, bound(2 * LONG)]), f"proved bound {2 * LONG}")
 
 
 def many_drops(size: int) -> Text:
@@ -164,8 +181,9 @@ def late_arc(size: int) -> Text:
     n = 60
     none = [(i, j, -MAX_WEIGHT) for i in range(1, n) for j in range(1, n)][:3 * n]
     first = lemma_of(0, [*[(1, 2, 1 - LONG)] * (MAX_ARCS - 1), (2, 1, 1 - LONG)], lines_of([Force(1, 2)]))
-    second = lemma_of(1, [*none, (1, 2, 1 - LONG), *first_not_second(3, 4)], bytes(size) + lines_of([Force(3, 4)]))
-    return Text(crowd(n), log_of([first, second, bound(LONG)]), f"proved bound {LONG}")
+    arcs, force = [*none, (1, 2, 1 - LONG), *first_not_second(3, 4)], lines_of([Force(3, 4)])
+    others = (lemma_of(slot, arcs, bytes(part) + force) for slot, part in enumerate(pieces(size), 1))
+    return Text(crowd(n), log_of([first, *others, bound(LONG)]), f"proved bound {LONG}")
 
 
 def long_chains(size: int) -> Text:
@@ -193,13 +211,30 @@ def dead_root(size: int) -> Text:
     """Lines that are not looked at, since no schedule is in question, of numbers in nine bytes."""
     project = projects.Project([0, 1, 0], [[0], [2], [0]], [1], [])
     odd = number(8 * 5 + 1, 9) + number(77, 9)
-    lemma = lemma_of(0, [(0, 1, 5), (1, 0, 7)], bytes(size // 2) + odd * (size // 2 // len(odd)))
-    return Text(project, log_of([lemma, text_of(Claim("no schedule"))]), "proved no schedule")
+    lemmas = (lemma_of(slot, [(0, 1, 5), (1, 0, 7)], bytes(part // 2) + odd * (part // 2 // len(odd)))
+              for slot, part in enumerate(pieces(size)))
+    return Text(project, log_of([*lemmas, text_of(Claim("no schedule"))]), "proved no schedule")
+
+
+def crossed_delays(size: int) -> Text:
+    """Lemmas of delays of the same two activities, of which the last alone says those that tours need. Each line shows
+    one period more, by the orders of the third with both."""
+    far, n = 1_000_000, 3
+    arcs, force = [(1, 2, 1 - far), (2, 1, 1 - far)], lines_of([Force(1, 2)])
+    count = size // 2 // len(lemma_of(SLOTS - 1, arcs, force))
+    weak = [lemma_of(slot, [(1, 2, 1 - far), (2, 1, 1 - far + 1 + slot)], force) for slot in range(count)]
+    first, parts = far + 1, pieces(size // 2)
+    intervals = [Interval(i, 0, far) for i in range(1, n + 1)]
+    each = len(lines_of([Push(Tour(0, 2 * far, intervals), (0, n, first))]))
+    lines = lines_of(Push(Tour(0, v - 1 + far, intervals), (0, n, v)) for v in range(first, first + parts[0] // each))
+    lemmas = (lemma_of(count + 1 + k, arcs, lines + force) for k in range(len(parts)))
+    texts = [*weak, lemma_of(count, arcs, force), *lemmas, bound(2 * far)]
+    return Text(crowd(n, [(i, n, far) for i in (1, 2)], duration=far), log_of(texts), f"proved bound {2 * far}")
 
 
 TEXTS: list[Callable[[int], Text]] = [
-    long_lemma, wide_lemma, many_arcs, many_roots, deep_uses, huge_cliques, wide_loads, many_drops, unseen, late_arc,
-    long_chains, extreme_arcs, dead_root,
+    long_lemma, long_event, wide_lemma, many_arcs, many_roots, deep_uses, huge_cliques, wide_loads, many_drops, unseen,
+    late_arc, long_chains, extreme_arcs, dead_root, crossed_delays,
 ]
 
 

@@ -2,7 +2,7 @@
 import itertools
 from collections.abc import Iterable, Sequence
 
-from verify_log import TITLE, Arc, Body, Claim, Clique, Drop, Event, Force, Lemma, Line, Load, Push, Schedule, Use
+from verify_log import TITLE, Arc, Body, Claim, Clique, Drop, Event, Force, Lemma, Line, Over, Push, Schedule, Tour, Use
 
 CLAIMS = {"optimal": 0, "bound": 1, "no": 2}
 
@@ -29,8 +29,11 @@ def of_arc(arc: Arc) -> list[int]:
     return [3 * i + 2, j, zigzag(v)]
 
 
-def of_push(over: Load | Clique, is_bare: bool) -> list[int]:
+def of_push(over: Over, is_bare: bool) -> list[int]:
     window = [zigzag(over.start), zigzag(over.end - over.start)]
+    if isinstance(over, Tour):
+        intervals = [(activity, zigzag(at), length) for activity, at, length in over.intervals]
+        return [8 * len(intervals) + 7, *window, 0 if is_bare else 1, *itertools.chain.from_iterable(intervals)]
     if isinstance(over, Clique):
         return [8 * len(over.members) + (5 if is_bare else 6), *window, *over.members]
     if is_bare:

@@ -3,8 +3,9 @@ import random
 from collections.abc import Callable
 
 from log_bytes import bodies_of, body_of, framed, log_of, number, numbers_of, of_event
-from verify_log import MAX_ARCS, MAX_TIME, MAX_WEIGHT, SLOTS, TITLE, Arc, Body, Clique, Drop, Event, Force, Form, Lemma
-from verify_log import Line, Load, Push, Use
+from verify_log import (
+    MAX_ARCS, MAX_TIME, MAX_WEIGHT, SLOTS, TITLE, Arc, Body, Clique, Drop, Event, Force, Form, Interval, Lemma, Line,
+    Load, Over, Push, Tour, Use)
 
 Bodies = list[bytes]  # events without the numbers of their bytes
 Damage = Callable[[random.Random, Bodies], None]
@@ -95,7 +96,8 @@ def longer_number(rng: random.Random, bodies: Bodies) -> None:
 def huge_count(rng: random.Random, bodies: Bodies) -> None:
     """An event that says that it has very many arcs, starts or members."""
     count = rng.choice(HUGE)
-    lemmas = [[0, count], [0, 0, 8 * count + 5, 0, 2, 1], [8, 0, 8 * count + 6]]
+    lemmas = [[0, count], [0, 0, 8 * count + 5, 0, 2, 1], [8, 0, 8 * count + 6],
+              [0, 0, 8 * count + 7, 0, 2, 0, 1, 0, 3]]
     bodies.insert(place_of(rng, bodies), body_of(rng.choice([*lemmas, [4 * count + 2, 0, 0], [4 * count + 3]])))
 
 
@@ -112,7 +114,9 @@ def some_line(rng: random.Random) -> Line:
     arc = rng.choice([None, some_arc(rng), some_arc(rng)])
     start, size = rng.randrange(12), rng.choice([1, 1, 2, 3, 5, 0, -1, MAX_TIME])
     members = sorted(rng.sample(range(9), rng.randrange(5)))
-    overs: list[Load | Clique] = [Load(rng.randrange(4), start, start + size), Clique(start, start + size, members)]
+    intervals = [Interval(member, rng.randrange(-2, 3), rng.randrange(5)) for member in members]
+    window = start, start + size
+    overs: list[Over] = [Load(rng.randrange(4), *window), Clique(*window, members), Tour(*window, intervals)]
     lines: list[Line] = [Use(rng.randrange(6)), Force(rng.randrange(9), rng.randrange(9)), Push(rng.choice(overs), arc)]
     return rng.choice(lines)
 
@@ -165,9 +169,11 @@ def limit_arcs(rng: random.Random, bodies: Bodies) -> None:
 
 
 def line_of_nothing(rng: random.Random, bodies: Bodies) -> None:
-    """A clique of no members in a window that ends before it begins, or a load in one as wide as it may be or wider."""
+    """A clique or a tour of nothing in a window that ends before it begins, or a load in one as wide as it may be or
+    wider."""
     wide = Load(rng.randrange(3), -MAX_TIME - rng.randrange(2), MAX_TIME + rng.randrange(2))
-    over: Load | Clique = wide if rng.randrange(3) else Clique(4, 0, [])
+    overs: list[Over] = [wide, wide, wide, Clique(4, 0, []), Tour(4, 0, [])]
+    over = rng.choice(overs)
     on_lemma(rng, bodies, lambda lemma: lemma._replace(lines=[Push(over, None), *lemma.lines]))
 
 
@@ -238,12 +244,33 @@ def use_of_itself(rng: random.Random, bodies: Bodies) -> None:
 
 
 def member_twice(rng: random.Random, bodies: Bodies) -> None:
-    """A clique that has one of its members twice, or its members in another order."""
+    """A clique or a tour that has one of its members twice, or its members in another order."""
     def other(line: Line) -> Line:
-        if not isinstance(line, Push) or not isinstance(line.over, Clique):
+        match line:
+            case Push(Clique(start, end, members), arc):
+                return Push(Clique(start, end, rng.choice([sorted([*members, *members[:1]]), members[::-1]])), arc)
+            case Push(Tour(start, end, intervals), arc):
+                return Push(Tour(start, end, rng.choice([sorted([*intervals, *intervals[:1]]), intervals[::-1]])), arc)
+        return line
+
+    on_lemma(rng, bodies, lambda lemma: lemma._replace(lines=list(map(other, lemma.lines))))
+
+
+def other_interval(rng: random.Random, bodies: Bodies) -> None:
+    """Intervals of tours that begin earlier or later, are longer or shorter, or are of another activity, or at a
+    limit."""
+    limit = MAX_WEIGHT + rng.randrange(-1, 2)
+    changes = [(0, 0, 1), (0, 0, 1), (0, 1, 0), (0, -1, 0), (0, -1, 1), (0, 1, -1), (1, 0, 0), (0, limit, 0),
+               (0, 0, limit)]
+
+    def other(line: Line) -> Line:
+        if not isinstance(line, Push) or not isinstance(line.over, Tour) or not line.over.intervals:
             return line
-        members = rng.choice([sorted([*line.over.members, *line.over.members[:1]]), line.over.members[::-1]])
-        return line._replace(over=line.over._replace(members=members))
+        intervals, by = list(line.over.intervals), rng.choice(changes)
+        place = rng.randrange(len(intervals))
+        activity, at, length = (value + more for value, more in zip(intervals[place], by))
+        intervals[place] = Interval(activity, at, max(0, length))
+        return line._replace(over=line.over._replace(intervals=intervals))
 
     on_lemma(rng, bodies, lambda lemma: lemma._replace(lines=list(map(other, lemma.lines))))
 
@@ -293,7 +320,7 @@ DAMAGES: list[Damage] = [
     event_gone, event_twice, events_swapped, drop_more, other_claim,
     other_number, other_number, numbers_moved, longer_number, huge_count,
     line_more, line_more, other_lines, line_gone, line_of_nothing, other_window, other_window, use_of_itself,
-    member_twice,
+    member_twice, other_interval,
     deep_uses, other_arcs, arcs_twice, wider_arc, limit_arc, limit_arcs, far_slot, lemma_late,
 ]
 DAMAGES_OF_BYTES = [other_byte, other_byte, cut_off, cut_between, other_frame, more_bytes]

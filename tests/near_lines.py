@@ -9,7 +9,7 @@ from typing import NamedTuple
 
 import verify
 from verify import Rows
-from verify_log import Arc, Clique, Force, Ledger, Lemma, Line, Load, Push, Use, least_part, with_arc
+from verify_log import Arc, Clique, Force, Interval, Ledger, Lemma, Line, Load, Push, Tour, Use, least_part, with_arc
 
 Window = tuple[int, int]
 
@@ -62,6 +62,30 @@ class Finder:
                 for window in ((start, end), (start + 1, end), (start, end - 1)):
                     yield Near(Push(Clique(*window, list(members)), None), self.clique_by(window, members) + (size < 2))
 
+    def lie_apart_by(self, m: Interval, k: Interval) -> int:
+        """How much two intervals lack to have no time in common."""
+        pair, there, back = (m.activity, k.activity), m.end - k.at, k.end - m.at
+        known = self.ledger.delays.by_slot.get(pair, {}).values()
+        lacks = [max(there - first, back - second) for first, second in known]
+        return max(0, min([there - self.rows[pair[0]][pair[1]], back - self.rows[pair[1]][pair[0]], *lacks]))
+
+    def tour_by(self, window: Window, intervals: Sequence[Interval]) -> int:
+        early = sum(max(0, window[0] - m.at - self.rows[0][m.activity]) for m in intervals)
+        late = sum(max(0, m.end - window[1] - self.rows[m.activity][0]) for m in intervals)
+        apart = sum(self.lie_apart_by(m, k) for m, k in itertools.combinations(intervals, 2))
+        return early + late + apart + max(0, window[1] - window[0] + 1 - sum(m.length for m in intervals))
+
+    def tours(self) -> Iterator[Near]:
+        shifts = [(0, 0), (-1, 1), (1, 0), (0, 1), (0, -1)]
+        for size in (1, 2, 3):
+            for members in itertools.combinations(self.timely, size):
+                at, more = shifts[sum(members) % len(shifts)]
+                intervals = [Interval(i, at, max(0, self.project.durations[i] + more)) for i in members]
+                start = min(self.rows[0][m.activity] + m.at for m in intervals)
+                end = max(m.end - self.rows[m.activity][0] for m in intervals)
+                for window in ((start, end), (start + 1, end), (start, end - 1)):
+                    yield Near(Push(Tour(*window, intervals), None), self.tour_by(window, intervals))
+
     def forces(self) -> Iterator[Near]:
         p = self.project
         for a, b in itertools.permutations(self.timely, 2):
@@ -76,7 +100,7 @@ class Finder:
         yield Near(Use(slot), 1)
 
     def all(self, slot: int) -> list[Near]:
-        return [*self.loads(), *self.cliques(), *self.forces(), *self.uses(slot)]
+        return [*self.loads(), *self.cliques(), *self.tours(), *self.forces(), *self.uses(slot)]
 
 
 def fixed(rng: random.Random, starts: Sequence[int]) -> list[Arc]:

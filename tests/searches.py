@@ -3,7 +3,8 @@
 
 Has both programs solve N small seeded projects (2,000 by default), every fifth with two jobs of psprove, and wants one
 verdict of both. The starts of psprove have to pass `psmax check`, and its record has to prove the verdict, by `psprove
-verify` and, below 100,000 bytes, by tests/verify_log.py. Then psprove alone solves N projects of 62 to 250 activities
+verify` and, below 100,000 bytes, by tests/verify_log.py. So do half as many projects of jobs whose operations wait for
+nothing, or for little. Then psprove alone solves N projects of 62 to 250 activities
 (40 by default), every second with four jobs, of which psmax can prove few. Ten projects are solved twice by the same
 words, which have to give the same bytes. Three projects, of which one has no schedule, are solved with all times
 multiplied by 997. The records of two have to have a line of each kind that only long searches write. The last line
@@ -19,7 +20,7 @@ import projects
 import shops
 import verify
 from harness import Verdicts
-from verify_log import Clique, Lemma, Log, Push
+from verify_log import Lemma, Load, Log, Push
 
 MOST_BYTES = 100_000
 
@@ -79,14 +80,23 @@ class Search:
         return None
 
 
-def wrong_small(programs: tuple[str, str], folder: pathlib.Path, seed: int) -> str | None:
+def wrong_of(programs: tuple[str, str], folder: pathlib.Path, seed: int, name: str, text: bytes) -> str | None:
     """What is wrong with what psprove says of a small project, or None."""
-    search = Search(*programs, folder, f"{seed}", text_of(seed))
+    search = Search(*programs, folder, f"{name}{seed}", text)
     status, wanted = run([search.psmax, "solve"], search.text)
     told, answer = search.solve(*(["--jobs", "2"] if seed % 5 == 0 else []))
     if (status, told) != (0, 0) or answer.split(b"\n")[0] != wanted.split(b"\n")[0]:
         return f"psmax says {status} {wanted!r}, psprove {told} {answer!r}"
     return search.wrong_answer(answer)
+
+
+def wrong_small(programs: tuple[str, str], folder: pathlib.Path, seed: int) -> str | None:
+    return wrong_of(programs, folder, seed, "small", text_of(seed))
+
+
+def wrong_groups(programs: tuple[str, str], folder: pathlib.Path, seed: int) -> str | None:
+    """The same of a project of groups."""
+    return wrong_of(programs, folder, seed, "groups", projects.groups(seed).text())
 
 
 def wrong_large(programs: tuple[str, str], folder: pathlib.Path, seed: int) -> str | None:
@@ -124,9 +134,9 @@ def wrong_stretched(programs: tuple[str, str], folder: pathlib.Path, place: int)
 
 def kind_of(push: Push) -> str:
     """What a line shows, and by what; nothing of a load of one period, which the time table finds."""
-    if not isinstance(push.over, Clique) and push.over.end - push.over.start == 1:
+    if isinstance(push.over, Load) and push.over.end - push.over.start == 1:
         return ""
-    by = "clique" if isinstance(push.over, Clique) else "load"
+    by = type(push.over).__name__.lower()
     return f"{by} contradiction" if push.arc is None else f"{by} {'order' if min(push.arc[:2]) > 0 else 'bound'}"
 
 
@@ -148,6 +158,7 @@ def verdicts(words: Sequence[str]) -> Verdicts:
     with harness.new_folder() as folder:
         for title, wrong, count in (
             ("small", wrong_small, o.seeded),
+            ("groups", wrong_groups, o.seeded // 2),
             ("large", wrong_large, o.large),
             ("again", wrong_again, 10),
             ("stretched", wrong_stretched, len(STRETCHED)),

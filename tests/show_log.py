@@ -3,24 +3,28 @@
 
     show_log.py < LOG
 
-An arc (I, J, V) is I>J:V. A line that shows an arc ends with `shows` and this arc. A log that is cut, or has bytes that
-are no event, is printed so far, and the fault then stands on standard error, with exit status 4. Whether an event is
-right is not looked at. """
+An arc (I, J, V) is I>J:V, an interval (M, A, B) of a tour M:A:B. A line that shows an arc ends with `shows` and this
+arc. A log that is cut, or has bytes that are no event, is printed so far, and the fault then stands on standard error,
+with exit status 4. Whether an event is right is not looked at. """
 import sys
 from typing import BinaryIO
 
 from verify import status_of
-from verify_log import Arc, Claim, Clique, Drop, Event, Force, Lemma, Line, Load, Log, Push, Schedule, Use
+from verify_log import Arc, Claim, Clique, Drop, Event, Force, Lemma, Line, Load, Log, Over, Push, Schedule, Tour, Use
 
 
 def arc_text(arc: Arc) -> str:
     return "{}>{}:{}".format(*arc)
 
 
-def over_text(over: Load | Clique) -> str:
-    if isinstance(over, Load):
-        return f"load {over.resource} {over.start} {over.end}"
-    return " ".join(map(str, ["clique", over.start, over.end, *over.members]))
+def over_text(over: Over) -> str:
+    match over:
+        case Load(resource, start, end):
+            return f"load {resource} {start} {end}"
+        case Clique(start, end, members):
+            return " ".join(map(str, ["clique", start, end, *members]))
+        case Tour(start, end, intervals):
+            return " ".join(["tour", str(start), str(end), *("{}:{}:{}".format(*interval) for interval in intervals)])
 
 
 def line_text(line: Line) -> str:

@@ -8,8 +8,8 @@ from collections.abc import Iterator, Sequence
 import verify
 from verify import Rows
 from verify_log import (
-    Arc, Block, Claim, Clique, Drop, Event, Force, Ledger, Lemma, Line, Load, Push, Schedule, Use, are_rivals)
-from verify_log import reverse, with_arc
+    Arc, Block, Claim, Clique, Drop, Event, Force, Interval, Ledger, Lemma, Line, Load, Push, Schedule, Tour, Use)
+from verify_log import are_rivals, reverse, with_arc
 
 Pair = tuple[int, int]
 
@@ -30,6 +30,9 @@ class Prover:
         if rng.random() < 0.4:
             self.makers = [self.cliques, self.orders, *self.makers]
         self.is_short, self.is_tidy = rng.random() < 0.5, rng.random() < 0.7
+        self.has_tours = rng.random() < 0.5
+        if self.has_tours:
+            self.makers = [self.tours, self.ordered_tours, *self.makers]
 
     def take(self, event: Event) -> None:
         if not self.ledger.takes(event):
@@ -94,6 +97,41 @@ class Prover:
             window = self.window(rows, members)
             load, clique = Load(self.rng.choice(self.resources()), *window), Clique(*window, members)
             yield Push(load if self.rng.random() < 0.3 else clique, (a, b, self.project.durations[a]))
+
+    # ---- tours
+
+    def intervals(self) -> list[Interval]:
+        """Intervals of rivals, most of which are as long as these."""
+        shifts = [(0, 0), (0, 0), (0, 0), (-1, 1), (0, 1), (1, -1)]
+        drawn = ((i, self.rng.choice(shifts)) for i in self.clique())
+        return [Interval(i, at, max(0, self.project.durations[i] + more)) for i, (at, more) in drawn]
+
+    def tour(self, rows: Rows) -> Tour:
+        """In the window in which they lie."""
+        intervals = self.intervals()
+        begin = min(rows[0][m.activity] + m.at for m in intervals)
+        return Tour(begin, max(m.end - rows[m.activity][0] for m in intervals), intervals)
+
+    def tours(self, rows: Rows) -> Iterator[Line]:
+        return iter([Push(self.tour(rows), None) for _ in range(2)])
+
+    def ordered_tours(self, rows: Rows) -> Iterator[Line]:
+        """An activity starts later than at its earliest start, or earlier than at its latest, or after another."""
+        tour, i = self.tour(rows), self.rng.choice(self.activities)
+        j = self.rng.choice(self.activities)
+        shown = [(0, i, rows[0][i] + 1), (i, 0, rows[i][0] + 1), (i, j, rows[i][j] + self.rng.randint(1, 3))]
+        return (Push(tour, arc) for arc in shown)
+
+    def learn_delays(self) -> None:
+        """Lemmas of two arcs, of rivals or of any two: one starts so long after the other, or the other after it."""
+        drawn = [(self.rng.choice(self.activities), self.rng.choice(self.activities)) for _ in range(2)]
+        pairs = [*self.rivals, *drawn]
+        for i, j in self.rng.sample(pairs, len(pairs)):
+            first, second = (self.project.durations[k] + self.rng.choice([-1, 0, 0, 0, 1, 2]) for k in (i, j))
+            arcs = self.rng.sample([(j, i, 1 - first), (i, j, 1 - second)], 2)
+            rows, lines = self.propagated(arcs)
+            if rows is None and self.ledger.rows is not None:
+                self.take(Lemma(self.free_slot(), arcs, lines))
 
     # ---- a lemma
 
@@ -178,6 +216,8 @@ def proved(project: verify.Project, rng: random.Random, most: int = 120) -> list
     """The events of a log of so many at most, with its claim."""
     prover = Prover(project, rng, rng.randrange(1, 12) if rng.random() < 0.2 else most - 1)
     try:
+        if prover.has_tours:
+            prover.learn_delays()
         while prover.ledger.rows is not None:
             prover.refute([])
     except Stopped:

@@ -4,10 +4,11 @@
 Trims logs of lemmas by `psprove trim`: those of tests/logs, the rows of faults.jsonl there, and N logs of small
 projects (2,000 by default), of which every other one is damaged. Of one that is right the trimmed log has to prove the
 same, by `psprove verify` and by tests/verify_log.py. But for its drops it is no longer. It has one schedule at most, no
-lemma in a slot that no later lemma uses, and no slot that is filled longer than that; trimmed once more it has the same
-bytes. Of any other log `trim` has to say what `verify` says. The last line counts the logs."""
+lemma in a slot that no later lemma uses or has delays of, and no slot that is filled longer than that; trimmed once
+more it has the same bytes. Of any other log `trim` has to say what `verify` says. The last line counts the logs."""
 import functools
 import io
+import itertools
 import json
 import random
 from collections.abc import Iterator, Sequence
@@ -22,7 +23,7 @@ import verify
 from harness import TOP, Ended, Verdict, Verdicts
 from log_damages import damaged
 from logs import project_of
-from verify_log import Drop, Event, Lemma, Log, Schedule, Use
+from verify_log import Arc, Delays, Drop, Event, Lemma, Line, Log, Push, Schedule, Tour, Use
 
 BY_SCRIPT = 200_000  # bytes of a log at most that is judged by verify_log.py
 
@@ -35,12 +36,25 @@ def events_of(log: bytes) -> list[Event]:
     return list(Log(io.BytesIO(log)).events())
 
 
+def used(line: Line, delays: Delays) -> Iterator[int]:
+    """The slots of lemmas that a line may rest on."""
+    match line:
+        case Use(slot):
+            yield slot
+        case Push(Tour(_, _, intervals), _):
+            for m, k in itertools.combinations(intervals, 2):
+                known = delays.by_slot.get((m.activity, k.activity), {})
+                yield from (slot for slot, said in known.items() if m.end - k.at <= said[0] and k.end - m.at <= said[1])
+
+
 def needless(events: Sequence[Event]) -> str | None:
     """What a trimmed log has that its claim doesn't rest on, as far as slots tell."""
     last_use: dict[int, int] = {}  # by slot that is filled: the event that used its lemma last, 0 if none did
     last = 0  # the last event that was no drop
+    delays, arcs = Delays(), dict[int, list[Arc]]()
     for number, event in enumerate(events, 1):
         if isinstance(event, Drop):
+            delays.drop(event.slot, arcs[event.slot])
             if last_use.pop(event.slot) < last:
                 return f"event {number}: slot {event.slot} was not used just before"
             continue
@@ -48,9 +62,10 @@ def needless(events: Sequence[Event]) -> str | None:
         if isinstance(event, Schedule) and number > 1:
             return f"event {number}: a schedule"
         if isinstance(event, Lemma):
-            last_use |= {line.slot: number for line in event.lines if isinstance(line, Use)}
+            last_use |= {slot: number for line in event.lines for slot in used(line, delays)}
             if len(event.arcs) > 1:
-                last_use[event.slot] = 0
+                last_use[event.slot], arcs[event.slot] = 0, event.arcs
+                delays.put(event.slot, event.arcs)
     return f"slots are filled in the end: {sorted(last_use)}" if last_use else None
 
 

@@ -21,6 +21,7 @@ MAX_WEIGHT = 1_002_000_000  # of an arc, and of its negative
 MAX_TIME = 9_999_999_999  # of an end of a window, and of its negative
 SLOTS = 1_048_576
 MAX_ARCS = 1_024  # of a lemma
+MAX_BYTES = 1_048_576  # of a lemma's event, without the number of them
 PIECE = 65_536  # bytes that are read at a time
 Arc = tuple[int, int, int]
 Weight = Callable[[int, int], int]  # an entry of a block's weights
@@ -38,6 +39,25 @@ class Clique(NamedTuple):
     members: list[int]
 
 
+class Interval(NamedTuple):
+    activity: int
+    at: int  # periods from its start on until the interval begins
+    length: int
+
+    @property
+    def end(self) -> int:
+        return self.at + self.length
+
+
+class Tour(NamedTuple):
+    start: int
+    end: int
+    intervals: list[Interval]
+
+
+Over = Load | Clique | Tour
+
+
 class Use(NamedTuple):
     slot: int
 
@@ -48,7 +68,7 @@ class Force(NamedTuple):
 
 
 class Push(NamedTuple):
-    over: Load | Clique
+    over: Over
     arc: Arc | None
 
 
@@ -82,7 +102,7 @@ class Form(Exception):
 
 
 class Long(Form):
-    """The bytes of a lemma of more arcs than it may have."""
+    """The bytes of a lemma of more arcs or bytes than it may have."""
 
 
 class LogFault(Fault):
@@ -143,8 +163,17 @@ class Body:
             return Clique(*self.window(), [self.number() for _ in range(at)])
         raise Form
 
+    def tour(self, count: int) -> Push:
+        window, shows = self.window(), self.number()
+        if shows > 1:
+            raise Form
+        intervals = [Interval(self.number(), self.signed(), self.number()) for _ in range(count)]
+        return Push(Tour(*window, intervals), self.arc() if shows else None)
+
     def line(self) -> Line:
         at, kind = divmod(self.number(), 8)
+        if kind == 7:
+            return self.tour(at)
         if kind == 0:
             return Use(at)
         if kind == 1:
@@ -152,6 +181,8 @@ class Body:
         return Push(self.over(kind, at), None if kind in (2, 5) else self.arc())
 
     def lemma(self, slot: int) -> Lemma:
+        if len(self.data) > MAX_BYTES:
+            raise Long
         count = self.number()
         if count > MAX_ARCS:
             raise Long
@@ -329,10 +360,60 @@ def is_clique(project: Project, weight: Weight, start: int, end: int, members: S
     return all(run_apart(project, weight, a, b) for a, b in itertools.combinations(members, 2))
 
 
-def is_overload(project: Project, weight: Weight, over: Load | Clique) -> bool:
+class Delays:
+    """By two activities and by the slot of a lemma: how long the second starts after the first, or else the first after
+    the second."""
+
+    def __init__(self) -> None:
+        self.by_slot: dict[tuple[int, int], dict[int, tuple[int, int]]] = {}
+
+    def put(self, slot: int, arcs: Sequence[Arc]) -> None:
+        """A lemma of two arcs, one each way, says delays."""
+        if len(arcs) == 2 and arcs[0][:2] == arcs[1][1::-1]:
+            (i, j, there), (_, _, back) = arcs
+            self.by_slot.setdefault((j, i), {})[slot] = 1 - there, 1 - back
+            self.by_slot.setdefault((i, j), {})[slot] = 1 - back, 1 - there
+
+    def drop(self, slot: int, arcs: Sequence[Arc]) -> None:
+        for i, j, _ in arcs:
+            self.by_slot.get((i, j), {}).pop(slot, None)
+
+    def are(self, pair: tuple[int, int], there: int, back: int) -> bool:
+        """Whether one lemma says at least these."""
+        return any(there <= first and back <= second for first, second in self.by_slot.get(pair, {}).values())
+
+
+def lie_apart(weight: Weight, delays: Delays, m: Interval, k: Interval) -> bool:
+    there, back = m.end - k.at, k.end - m.at
+    ordered = weight(m.activity, k.activity) >= there or weight(k.activity, m.activity) >= back
+    return ordered or delays.are((m.activity, k.activity), there, back)
+
+
+def is_interval(project: Project, interval: Interval) -> bool:
+    return interval.activity < project.count and max(abs(interval.at), interval.length) <= MAX_WEIGHT
+
+
+def is_tour(project: Project, weight: Weight, delays: Delays, tour: Tour) -> bool:
+    start, end, intervals = tour
+    rise = all(m.activity < k.activity for m, k in zip(intervals, intervals[1:]))
+    if not intervals or not rise or not all(is_interval(project, m) for m in intervals):
+        return False
+    inside = all(weight(0, m.activity) >= start - m.at and weight(m.activity, 0) >= m.end - end for m in intervals)
+    if sum(m.length for m in intervals) <= end - start or not inside:
+        return False
+    return all(lie_apart(weight, delays, m, k) for m, k in itertools.combinations(intervals, 2))
+
+
+def is_overload(project: Project, weight: Weight, delays: Delays, over: Over) -> bool:
     if max(abs(over.start), abs(over.end)) > MAX_TIME:
         return False
-    return is_load(project, weight, *over) if isinstance(over, Load) else is_clique(project, weight, *over)
+    match over:
+        case Load():
+            return is_load(project, weight, *over)
+        case Clique():
+            return is_clique(project, weight, *over)
+        case Tour():
+            return is_tour(project, weight, delays, over)
 
 
 def asks_too_much(project: Project) -> bool:
@@ -356,6 +437,7 @@ class Ledger:
         self.ceiling = sum(stretches) + 1
         self.rows = None if asks_too_much(project) else with_arc(root_matrix(project), self.deadline())
         self.lemmas: dict[int, list[Arc]] = {}
+        self.delays = Delays()
 
     def deadline(self) -> Arc:
         return self.project.end, 0, 1 - self.ceiling
@@ -372,12 +454,13 @@ class Ledger:
         is_forced = are_rivals(self.project, a, b) and block.weight(a, b) > -self.project.durations[b]
         return (a, b, self.project.durations[a]) if is_forced else None
 
-    def pushed(self, block: Block, over: Load | Clique, arc: Arc | None) -> Arc | None:
+    def pushed(self, block: Block, over: Over, arc: Arc | None) -> Arc | None:
         if arc is None:
-            return (0, 0, 1) if is_overload(self.project, block.weight, over) else None
+            return (0, 0, 1) if is_overload(self.project, block.weight, self.delays, over) else None
         if not is_arc(self.project, arc):
             return None
-        return arc if block.implies(arc) or is_overload(self.project, with_reverse(block, arc), over) else None
+        is_implied = block.implies(arc)
+        return arc if is_implied or is_overload(self.project, with_reverse(block, arc), self.delays, over) else None
 
     def shown(self, block: Block, line: Line) -> Arc | None:
         """The arc that the line shows, which is met by each schedule in question that meets those of the block."""
@@ -411,7 +494,13 @@ class Ledger:
             self.rows = with_arc(self.rows, reverse(arcs[0])) if arcs else None
         else:
             self.lemmas[slot] = arcs
+            self.delays.put(slot, arcs)
         return True
+
+    def drop(self, slot: int) -> bool:
+        arcs = self.lemmas.pop(slot, None)
+        self.delays.drop(slot, arcs or [])
+        return arcs is not None
 
     def schedule(self, starts: Sequence[int]) -> bool:
         if not self.project.is_feasible(starts) or starts[-1] >= self.ceiling:
@@ -430,7 +519,7 @@ class Ledger:
             case Lemma(slot, arcs, lines):
                 return self.lemma(slot, arcs, lines)
             case Drop(slot):
-                return self.lemmas.pop(slot, None) is not None
+                return self.drop(slot)
             case Schedule(starts):
                 return self.schedule(starts)
             case Claim(said):

@@ -4,7 +4,7 @@
 //! tried first that it had last, or that the best schedule has.
 
 use crate::heap::Heap;
-use instance::{Instance, Result, Rivals, Table, narrow};
+use instance::{Classes, Instance, Result, Table, narrow};
 use propagation::{BoundChange, Edges, Literal, NEVER, Trail};
 use std::alloc::Global;
 use std::collections::HashMap;
@@ -273,11 +273,12 @@ impl Choices {
     }
 
     /// The values of a schedule are tried first. Where nothing has a weight, activities are started in its order.
-    pub(crate) fn prefer(&mut self, instance: &Instance, starts: &[i32], pairs: &[Rivals]) {
+    pub(crate) fn prefer(&mut self, instance: &Instance, starts: &[i32], classes: &Classes) {
         for activity in 0..instance.count() {
             self.saved[activity] = start_of(starts, activity);
         }
-        for (variable, pair) in (instance.count()..u32::MAX).zip(pairs) {
+        for (variable, class) in (instance.count()..u32::MAX).zip(0..classes.count()) {
+            let pair = classes.pair(class);
             let end = start_of(starts, pair.first).wrapping_add(instance.durations[pair.first]);
             self.saved[variable] = i32::from(start_of(starts, pair.second) >= end);
         }

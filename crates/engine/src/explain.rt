@@ -82,21 +82,20 @@ impl Engine<'_> {
                 self.marks.found.push(Literal::new(arc.from, value))?;
                 Ok(LineReason::Arcs)
             }
-            Reason::Order { order } => {
-                let order = self.edges.orders.values[order];
-                let value = literal.value.wrapping_sub(order.arc.weight);
-                self.marks
-                    .find([order.literal, Literal::new(order.arc.from, value)])?;
-                Ok(LineReason::Arcs)
-            }
+            Reason::Order { order } => self.explain_order(literal, order),
             Reason::Lost { order } => self.explain_lost(order, now),
             Reason::Implied { slot } => {
                 self.marks.found.push(Literal::order(slot))?;
                 Ok(LineReason::Force)
             }
-            Reason::Through { via } => self.explain_through(literal, via),
+            Reason::Through {
+                clique,
+                first,
+                via,
+                second,
+            } => self.explain_through(literal, clique, [first, via, second]),
             Reason::Edge { clique, from, to } => {
-                self.explain_edge(literal, clique, from, to, now)
+                self.explain_edge(literal, clique, (from, to), now)
             }
             Reason::Pushed { clique, time } => self.explain_push(literal, clique, time, now),
             Reason::Full { resource, time } => self.explain_full(literal, resource, time, now),
@@ -106,6 +105,24 @@ impl Engine<'_> {
         }
     }
 
+    /// The reason of a record's line, by an order's edge: the first one of a side holds where that does, a further one by a
+    /// lemma.
+    fn order_reason(&self, order: u32, first: LineReason) -> LineReason {
+        match self.log.further(self.edges.edge_of[order]) {
+            Some(lemma) => LineReason::Use { lemma },
+            None => first,
+        }
+    }
+
+    /// The order, and the bound from which it leads.
+    fn explain_order(&mut self, literal: Literal, number: u32) -> Result<LineReason> {
+        let order = self.edges.orders.values[number];
+        let value = literal.value.wrapping_sub(order.arc.weight);
+        self.marks
+            .find([order.literal, Literal::new(order.arc.from, value)])?;
+        Ok(self.order_reason(number, LineReason::Arcs))
+    }
+
     /// The bound from which an order leads and the one that it would pass: of the first only as much as contradicts.
     fn explain_lost(&mut self, order: u32, now: u32) -> Result<LineReason> {
         let arc = self.edges.orders.values[order].arc;
@@ -113,7 +130,7 @@ impl Engine<'_> {
         let passed = self.trail.value_at(slot, now);
         let value = 1i32.wrapping_sub(arc.weight).wrapping_sub(passed);
         self.marks.find([Literal::new(slot, passed), Literal::new(arc.from, value)])?;
-        Ok(LineReason::Force)
+        Ok(self.order_reason(order, LineReason::Force))
     }
 
     /// Lists users of a resource that ran at a time for sure, as of an event, but the activity of a literal. Gives what they
@@ -161,82 +178,5 @@ impl Engine<'_> {
             self.marks.find(literals)?;
         }
         Ok(LineReason::Load { resource, from, to })
-    }
-
-    /// The literals by which one activity pushes the one of a literal: their order, unless it is by lags, and a bound at a
-    /// time.
-    fn pushes(&self, other: u32, literal: Literal, time: i32) -> (Option<Literal>, Literal) {
-        let activity = literal.variable();
-        if literal.is_lower() {
-            let order = self.edges.precedence(other, activity);
-            return (order, Literal::at_least(other, time));
-        }
-        let latest = time.wrapping_sub(self.instance.durations[other]);
-        let order = self.edges.precedence(activity, other);
-        (order, Literal::at_most(other, latest))
-    }
-
-    /// Lists the members of a clique that pushed the activity of a literal as of an event. Gives how long they take.
-    fn list_pushing(&mut self, literal: Literal, clique: u32, time: i32, now: u32) -> Result<i32> {
-        let mut sum = 0i32;
-        self.marks.causes.items.clear();
-        for at in self.cliques.members.numbers(clique) {
-            let other = self.cliques.members.values[at];
-            let (order, bound) = self.pushes(other, literal, time);
-            let order = order.unwrap_or(bound);
-            let pushes = self.trail.holds(order) && self.trail.holds(bound);
-            if pushes && other != literal.variable() {
-                let duration = self.instance.durations[other];
-                let added = self.note_cause(other, duration, [order, bound], now)?;
-                sum = sum.wrapping_add(added);
-            }
-        }
-        Ok(sum)
-    }
-
-    /// Members of a clique that run before or after the literal's activity, and push it.
-    fn explain_push(
-        &mut self,
-        pushed: Literal,
-        clique: u32,
-        at: i32,
-        now: u32,
-    ) -> Result<LineReason> {
-        let sum = self.list_pushing(pushed, clique, at, now)?;
-        let bound = pushed.value.wrapping_sub(1);
-        let end = self.instance.durations[pushed.variable()].wrapping_sub(bound);
-        let is_lower = pushed.is_lower();
-        let (from, to) = if is_lower { (at, bound) } else { (end, at) };
-        let room = to.wrapping_sub(from).max(0);
-        let length = room.wrapping_add(self.marks.keep_enough(sum, room)?);
-        let (from, to) = match is_lower {
-            true => (bound.wrapping_sub(length).max(0), bound),
-            false => (end, end.wrapping_add(length)),
-        };
-        self.find_pushing(pushed, if is_lower { from } else { to })?;
-        self.clique_reason(from, to)
-    }
-
-    /// Finds the literals by which the members that are needed push the activity of a literal.
-    fn find_pushing(&mut self, pushed: Literal, time: i32) -> Result<()> {
-        self.marks.activities.items.sort_unstable();
-        for at in 0..self.marks.activities.count() {
-            let other = self.marks.activities[at];
-            let (order, bound) = self.pushes(other, pushed, time);
-            if let Some(order) = order {
-                self.marks.found.push(order)?;
-            }
-            self.marks.found.push(bound)?;
-        }
-        Ok(())
-    }
-
-    /// The reason of a record's line, by the members that are needed. One alone pushes by its arc.
-    pub(crate) fn clique_reason(&mut self, from: i32, to: i32) -> Result<LineReason> {
-        if self.marks.activities.count() < 2 {
-            return Ok(LineReason::Arcs);
-        }
-        let members = self.log.set(&self.marks.activities.items)?;
-        Ok(LineReason::Clique { members, from, to })
     }
 }

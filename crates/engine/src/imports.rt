@@ -1,7 +1,7 @@
 //! What other searches have proved.
 
 use crate::state::Engine;
-use instance::{Result, narrow};
+use instance::{Edge, Result, narrow, reverse};
 use network::Lag;
 use propagation::{Conflict, Literal, NEVER, Reason, Stop};
 use std::mem;
@@ -22,11 +22,16 @@ pub(crate) enum Import {
 /// A search looks at imports after so many conflicts, though it does not start again.
 const PATIENCE: u64 = 500;
 
+/// The edge of an arc of a record.
+pub(crate) fn edge_of(arc: Lag) -> Edge {
+    let weight = arc.weight.clamp(i64::from(i32::MIN), i64::from(i32::MAX)) as i32;
+    Edge::new(narrow(arc.from), narrow(arc.to), weight)
+}
+
 impl Engine<'_> {
-    /// The literal of an arc: a bound of a start, or the order of two activities. None if it always holds.
-    pub(crate) fn literal_of(&self, arc: Lag) -> Option<Literal> {
-        let (from, to) = (narrow(arc.from), narrow(arc.to));
-        let weight = arc.weight.clamp(i64::from(i32::MIN), i64::from(i32::MAX)) as i32;
+    /// The literal of an edge: a bound of a start, or the order of two activities. None if it always holds.
+    pub(crate) fn literal_of(&self, edge: Edge) -> Option<Literal> {
+        let Edge { from, to, weight } = edge;
         match (from, to) {
             (0, _) => Some(Literal::at_least(to, weight)),
             (_, 0) => Some(!Literal::at_least(from, 1i32.wrapping_sub(weight))),
@@ -34,22 +39,34 @@ impl Engine<'_> {
         }
     }
 
-    /// The literals of arcs, but those that always hold.
-    fn literals_of(&self, arcs: &[Lag]) -> Result<Vec<Literal>> {
+    /// Whether an edge says no less than the literal that it has.
+    pub(crate) fn is_all_of(&self, literal: Literal, edge: Edge) -> bool {
+        edge.from == 0 || edge.to == 0 || literal == NEVER || self.log.is_shown_by(literal, edge)
+    }
+
+    /// The literals of the arcs of a lemma, but those that always hold. None where one is an order of a class that its
+    /// reverse does not show: another search may have other delays.
+    fn literals_of(&self, arcs: &[Lag]) -> Result<Option<Vec<Literal>>> {
         let mut literals = Vec::new(self.instance.alloc);
         for arc in arcs {
-            if let Some(literal) = self.literal_of(*arc) {
+            let edge = edge_of(*arc);
+            if let Some(literal) = self.literal_of(edge) {
+                if !self.is_all_of(!literal, reverse(edge)) {
+                    return Ok(None);
+                }
                 literals.push(literal)?;
             }
         }
-        Ok(literals)
+        Ok(Some(literals))
     }
 
     /// Takes a lemma of another search, which has this number and is of so many levels: not all of these arcs hold. It is
     /// looked at when the search is at the root next.
     pub fn import(&mut self, number: u32, lbd: u32, arcs: &[Lag]) -> Result<()> {
-        let nogood = self.literals_of(arcs)?;
         self.log.import(number)?;
+        let Some(nogood) = self.literals_of(arcs)? else {
+            return self.log.forget(number);
+        };
         self.imports.push(Import::Lemma {
             number,
             lbd,
@@ -63,7 +80,7 @@ impl Engine<'_> {
     pub fn import_heavy(&mut self, number: u32, lbd: u32, arcs: &[Lag]) -> Result<()> {
         self.reduction = self.reduction.saturating_add(1);
         for arc in arcs {
-            if let Some(literal) = self.literal_of(*arc) {
+            if let Some(literal) = self.literal_of(edge_of(*arc)) {
                 self.choices.bump(literal)?;
             }
         }
@@ -72,8 +89,10 @@ impl Engine<'_> {
 
     /// Takes an arc that always holds, as another search has proved. It is looked at when the search is at the root next.
     pub fn hold(&mut self, arc: Lag) -> Result<()> {
-        match self.literal_of(arc) {
+        let edge = edge_of(arc);
+        match self.literal_of(edge) {
             None | Some(NEVER) => {}
+            Some(literal) if !self.is_all_of(literal, edge) => {}
             Some(literal) => self.imports.push(Import::Root(literal))?,
         }
         Ok(())
@@ -85,7 +104,8 @@ impl Engine<'_> {
         !self.imports.is_empty() && self.counts.conflicts >= late
     }
 
-    /// The negations of the literals of a nogood that don't hold yet, at the root. None where one fails.
+    /// The negations of the literals of a nogood that don't hold yet, at the root. None where one fails, or two can't hold
+    /// together: then it says nothing.
     fn open_of(&self, nogood: &[Literal]) -> Result<Option<Vec<Literal>>> {
         let mut open = Vec::new(self.instance.alloc);
         for literal in nogood {
@@ -96,7 +116,8 @@ impl Engine<'_> {
                 open.push(!*literal)?;
             }
         }
-        Ok(Some(open))
+        let is_idle = open.len() == 2 && open.first().map(|first| !*first) == open.last().copied();
+        Ok((!is_idle).then_some(open))
     }
 
     /// Learns what is left of a lemma of another search. Gives its place.

@@ -19,7 +19,7 @@ mod search;
 mod split;
 mod state;
 
-pub use log::{Inference, LineReason, Log, LoggedEvent, Slots};
+pub use log::{Inference, LineReason, Log, LoggedEvent, OWN, Slots};
 pub use paths::Path;
 pub use search::{Pace, Subsearch, SubsearchState};
 pub use split::Piece;

@@ -1,12 +1,12 @@
 //! The log of a proof.
 
-use instance::{Edge, Instance, Result, Rivals, Rows};
+use instance::{Classes, Edge, Instance, Member, Result, Rivals, Rows, Shown, Table, reverse};
 use lemma_log::{Event, Lines};
 use lemma_proof::{Lags, Line, WindowOverload};
 use network::{Lag, Pair};
 use propagation::{Literal, NEVER};
 use record_text::Members;
-use std::collections::BTreeSet;
+use std::collections::{BTreeSet, HashMap};
 use std::mem;
 
 /// Why a literal follows from others, or why literals contradict each other. Times are in periods.
@@ -14,16 +14,15 @@ use std::mem;
 pub enum LineReason {
     /// By lags and orders alone.
     Arcs,
-    /// The other order of two rivals does not fit.
+    /// The other side of a class of orders does not fit.
     Force,
     /// By the lemma of a number.
     Use { lemma: u32 },
     /// What must run from one time to another needs too much of a resource.
     Load { resource: u32, from: i32, to: i32 },
-    /// The members of a clique, a set that the log keeps, need more time than there is from one time to another.
-    Clique { members: u32, from: i32, to: i32 },
-    /// The same members would, in the other order of two of them.
-    Edge { members: u32, from: i32, to: i32 },
+    /// The members of a clique, a set that the log keeps, need more time than there is from one time to another; or they
+    /// would, in the other order of two of them, which the set names. Of fewer than two members their orders alone say it.
+    Clique { set: u32, from: i32, to: i32 },
 }
 
 /// A literal, and why it follows.
@@ -32,6 +31,29 @@ pub struct Inference {
     pub literal: Literal,
     pub reason: LineReason,
 }
+
+/// Two members of a clique, of which the second does not end before the first begins.
+#[derive(Clone, Copy, PartialEq, Eq, Hash, Debug)]
+pub(crate) struct Late {
+    pub(crate) first: Member,
+    pub(crate) second: Member,
+}
+
+impl Late {
+    /// The edge that says so.
+    fn edge(self) -> Edge {
+        let Late { first, second } = self;
+        let end = second.at.wrapping_add(second.length);
+        let weight = first.at.wrapping_sub(end).wrapping_add(1);
+        Edge::new(first.activity, second.activity, weight)
+    }
+}
+
+/// No lemma has this number.
+const NO_LEMMA: u32 = u32::MAX;
+
+/// The LBD of a lemma that says nothing to other searches.
+pub const OWN: u32 = u32::MAX;
 
 /// The slots of a record that the lemmas of a search go to: every `jobs`-th one, from `job` on.
 #[derive(Clone, Copy, PartialEq, Eq, Debug)]
@@ -54,13 +76,21 @@ pub struct LoggedEvent {
 #[derive(Drop)]
 pub struct Log<'a> {
     instance: &'a Instance,
-    /// The order of `pairs[k]` is the variable after the activities and k others.
-    pub(crate) pairs: Vec<Rivals>,
+    /// The classes of orders. Class k is the variable after the activities and k others.
+    pub(crate) classes: Classes,
+    /// By class that is more than an order: the lemma that one of its sides holds.
+    either: Table<u32>,
+    /// By edge of a class, but the first ones: the lemma that it holds where its side does.
+    further: Table<u32>,
+    /// By two members: the lemma that a side of their class holds where they stand so, if no walk says it.
+    late: HashMap<Late, u32>,
     /// Whether events are kept.
     pub is_kept: bool,
     told: Vec<LoggedEvent>,
-    /// Sets of members of cliques.
-    sets: Rows<u32>,
+    /// Sets of members of cliques, lemmas that each needs before, and the two of which it shows an order.
+    sets: Rows<Member>,
+    uses: Rows<u32>,
+    shown: Table<Option<Late>>,
     slots: Slots,
     /// The numbers of lemmas in use, and of those that this search does without, and another one may not.
     used: BTreeSet<u32>,
@@ -79,15 +109,6 @@ fn lag(edge: Edge) -> Lag {
     }
 }
 
-/// The arc that holds where this one does not.
-fn reverse(arc: Lag) -> Lag {
-    Lag {
-        from: arc.to,
-        to: arc.from,
-        weight: 1i64.wrapping_sub(arc.weight),
-    }
-}
-
 /// The line that says that the second of two rivals can't come first.
 fn force(edge: Edge) -> Line {
     let (before, after) = (edge.from as usize, edge.to as usize);
@@ -95,10 +116,10 @@ fn force(edge: Edge) -> Line {
 }
 
 impl<'a> Log<'a> {
-    /// An empty log of a search over orders of pairs, whose lemmas go to these slots. One that isn't kept forgets all.
+    /// An empty log of a search over classes of orders, whose lemmas go to these slots. One that isn't kept forgets all.
     pub fn new(
         instance: &'a Instance,
-        pairs: &[Rivals],
+        classes: Classes,
         is_kept: bool,
         slots: Slots,
     ) -> Result<Log<'a>> {
@@ -108,10 +129,15 @@ impl<'a> Log<'a> {
         let count = taken.checked_div(slots.jobs).unwrap_or(0);
         Ok(Log {
             instance,
-            pairs: Vec::from_slice(alloc, pairs)?,
+            classes,
+            either: Table::new(alloc, NO_LEMMA),
+            further: Table::new(alloc, NO_LEMMA),
+            late: HashMap::new(alloc),
             is_kept,
             told: Vec::new(alloc),
-            sets: Rows::new(alloc, 0),
+            sets: Rows::new(alloc, Member::default()),
+            uses: Rows::new(alloc, 0),
+            shown: Table::new(alloc, None),
             slots,
             used: BTreeSet::new(alloc),
             forgotten: BTreeSet::new(alloc),
@@ -120,106 +146,166 @@ impl<'a> Log<'a> {
         })
     }
 
-    /// The activities of the literal of an order, the one that is first before the other.
-    pub(crate) fn order_of(&self, literal: Literal) -> Option<(u32, u32)> {
-        let place = literal.variable().checked_sub(self.instance.count())?;
-        let Rivals { first, second } = self.pairs.get(place as usize).copied()?;
-        Some(if literal.is_lower() {
-            (first, second)
-        } else {
-            (second, first)
-        })
+    /// The class of a literal, and its side: 0 if it is the class's own literal, 1 if it is the negation. None of a bound.
+    fn side_of(&self, literal: Literal) -> Option<(u32, u32)> {
+        let class = literal.variable().checked_sub(self.instance.count())?;
+        (class < self.classes.count()).then_some((class, literal.slot % 2))
     }
 
-    /// The arc of a literal.
-    fn arc(&self, literal: Literal) -> Edge {
+    /// The edge of a literal: the first one of a side of a class.
+    fn edge(&self, literal: Literal) -> Edge {
         let activity = literal.variable();
-        match self.order_of(literal) {
-            Some((first, second)) => Edge::new(first, second, self.instance.durations[first]),
+        match self.side_of(literal) {
+            Some((class, side)) => self.classes.first_edge(class, side),
             None if literal.is_lower() => Edge::new(0, activity, literal.value),
             None => Edge::new(activity, 0, literal.value),
         }
     }
 
-    /// What is left of an order's arc where the first activity need not end: the second does not end before the first one
-    /// starts. Its reverse is the whole of the other order.
-    fn not_after(&self, order: Edge) -> Lag {
-        let weight = 1i32.wrapping_sub(self.instance.durations[order.to]);
-        lag(Edge { weight, ..order })
+    /// The edge of a literal in a lemma. That of a side of a class holds just where the first one of the other side does not.
+    fn supposed(&self, literal: Literal) -> Edge {
+        match self.side_of(literal) {
+            Some((class, side)) => reverse(self.classes.first_edge(class, 1u32.wrapping_sub(side))),
+            None => self.edge(literal),
+        }
     }
 
-    /// The arc of a literal in a lemma, whose reverse is the whole of the other order.
-    fn supposed(&self, literal: Literal) -> Lag {
-        let edge = self.arc(literal);
-        match self.order_of(literal) {
-            Some(_) => self.not_after(edge),
-            None => lag(edge),
-        }
+    /// Whether an edge between two activities shows a literal of their class: by walks and lemmas.
+    pub(crate) fn is_shown_by(&self, literal: Literal, edge: Edge) -> bool {
+        let reaches = |known: Edge| {
+            (known.from, known.to) == (edge.from, edge.to) && edge.weight >= known.weight
+        };
+        let Some((class, _)) = self.side_of(literal) else {
+            return false;
+        };
+        let shows_order = edge.weight > self.instance.durations[edge.to].wrapping_neg();
+        !self.classes.is_loose(class) && shows_order
+            || reaches(self.supposed(literal))
+            || reaches(self.edge(literal))
+    }
+
+    /// The lemma by which an order's edge of this number holds where its side does; none if it is the first one.
+    pub(crate) fn further(&self, edge: u32) -> Option<u32> {
+        let lemma = self.further[edge];
+        (lemma != NO_LEMMA).then_some(lemma)
     }
 
     /// The arc of a decision that is one side of a split: the arcs of two sides are each other's reverse.
     pub fn side(&self, literal: Literal, is_second: bool) -> Lag {
-        match is_second {
-            true => lag(self.arc(literal)),
+        lag(match is_second {
+            true => self.edge(literal),
             false => self.supposed(literal),
-        }
+        })
     }
 
-    /// Adds the lines that show an arc, or that none is left. What arcs alone show needs none.
-    fn put(&self, lines: &mut Vec<Line>, reason: LineReason, edge: Option<Edge>) -> Result<()> {
-        let arc = edge.map(lag);
+    /// Adds the lines that show a literal, or that none is left. What arcs alone show needs none.
+    fn put(&self, lines: &mut Vec<Line>, link: Inference) -> Result<()> {
+        let Inference { literal, reason } = link;
         match reason {
-            LineReason::Arcs => Ok(()),
-            LineReason::Force => self.put_force(lines, edge),
-            LineReason::Use { lemma } => {
-                lines.push(Line::Use(lemma as usize))?;
-                Ok(())
-            }
+            LineReason::Arcs | LineReason::Force => {}
+            LineReason::Use { lemma } => lines.push(Line::Use(lemma as usize))?,
             LineReason::Load { resource, from, to } => {
                 let over = WindowOverload::Load {
                     resource: resource as usize,
                     from: i64::from(from),
                     to: i64::from(to),
                 };
+                let arc = self.arc_shown(literal);
                 lines.push(Line::Push { arc, over })?;
-                Ok(())
             }
-            LineReason::Clique { members, from, to } => {
-                let over = self.clique(members, from, to)?;
-                lines.push(Line::Push { arc, over })?;
-                Ok(())
+            LineReason::Clique { set, from, to } => {
+                self.put_clique(lines, literal, set, (from, to))?;
             }
-            LineReason::Edge { members, from, to } => {
-                let over = self.clique(members, from, to)?;
-                let arc = edge.map(|order| self.not_after(order));
-                lines.push(Line::Push { arc, over })?;
-                self.put_force(lines, edge)
-            }
+        }
+        self.put_order(lines, link)
+    }
+
+    /// The arc of a literal, if there is one.
+    fn arc_shown(&self, literal: Literal) -> Option<Lag> {
+        (literal != NEVER).then_some(lag(self.edge(literal)))
+    }
+
+    /// Adds the lines of the members of a set, which have to run from one time to another.
+    fn put_clique(
+        &self,
+        lines: &mut Vec<Line>,
+        literal: Literal,
+        set: u32,
+        (from, to): (i32, i32),
+    ) -> Result<()> {
+        for lemma in self.uses.row(set) {
+            lines.push(Line::Use(*lemma as usize))?;
+        }
+        if self.sets.row(set).len() < 2 {
+            return Ok(());
+        }
+        let over = WindowOverload::Clique {
+            from: i64::from(from),
+            to: i64::from(to),
+            members: self.members(set)?,
+        };
+        let arc = match self.shown[set] {
+            // What contradicts the literal is there already, unless that takes a lemma.
+            Some(late) if literal == NEVER && self.lemma_of(late).is_none() => None,
+            Some(late) => Some(lag(late.edge())),
+            None => self.arc_shown(literal),
+        };
+        lines.push(Line::Push { arc, over })?;
+        Ok(())
+    }
+
+    /// The lemma by which a side of a class holds where what a reason shows of two members does, if no walk says it.
+    fn lemma_of_shown(&self, reason: LineReason) -> Option<u32> {
+        match reason {
+            LineReason::Clique { set, .. } => self.shown[set].and_then(|late: Late| self.lemma_of(
+                late,
+            )),
+            _ => None,
         }
     }
 
-    /// Adds the line that says that the other order does not fit.
-    fn put_force(&self, lines: &mut Vec<Line>, edge: Option<Edge>) -> Result<()> {
-        if let Some(edge) = edge {
-            lines.push(force(edge))?;
+    /// Adds the line by which all of a literal's side holds, where it is one of a class: what a reason shows of an order is
+    /// that the other one does not fit.
+    fn put_order(&self, lines: &mut Vec<Line>, link: Inference) -> Result<()> {
+        let Inference { literal, reason } = link;
+        let either = self.side_of(literal).map(|(class, _)| self.either[class]);
+        match (self.lemma_of_shown(reason), either) {
+            (Some(lemma), _) => lines.push(Line::Use(lemma as usize))?,
+            (None, None) => {}
+            (None, Some(NO_LEMMA)) => {
+                if matches!(reason, LineReason::Force | LineReason::Clique { .. }) {
+                    lines.push(force(self.edge(literal)))?;
+                }
+            }
+            (None, Some(lemma)) => lines.push(Line::Use(lemma as usize))?,
         }
         Ok(())
     }
 
-    /// The members of a set have to run from one time to another.
-    fn clique(&self, members: u32, from: i32, to: i32) -> Result<WindowOverload> {
-        Ok(WindowOverload::Clique {
-            from: i64::from(from),
-            to: i64::from(to),
-            members: self.members(members)?,
-        })
+    /// The lemma by which a side of a class holds where two members stand so, if no walk says it.
+    fn lemma_of(&self, late: Late) -> Option<u32> {
+        self.late.get(&late).copied()
+    }
+
+    /// Whether some of these orders, each as it is not, follow by lemmas alone.
+    pub(crate) fn needs_any(&self, orders: &[Late]) -> bool {
+        !self.late.is_empty()
+            && orders
+                .iter()
+                .any(|late: &Late| self.lemma_of(*late).is_some())
+    }
+
+    /// Whether a literal is one of a class that is more than an order.
+    pub(crate) fn is_delayed(&self, literal: Literal) -> bool {
+        self.side_of(literal)
+            .is_some_and(|(class, _)| self.either[class] != NO_LEMMA)
     }
 
     /// The members of a set of a clique.
     fn members(&self, set: u32) -> Result<Members> {
         let mut members = Vec::new(self.instance.alloc);
         for member in self.sets.row(set) {
-            members.push(*member as usize)?;
+            members.push(member.activity as usize)?;
         }
         Ok(Members::new(members))
     }
@@ -235,35 +321,84 @@ impl<'a> Log<'a> {
         Ok(())
     }
 
-    /// A lemma of one arc, which always holds, or of none.
-    fn tell_root(&mut self, reason: LineReason, edge: Option<Edge>) -> Result<()> {
-        if !self.is_kept {
-            return Ok(());
-        }
-        let (mut arcs, mut lines) = (Vec::new(self.instance.alloc), Vec::new(self.instance.alloc));
+    /// A lemma of one edge, which always holds, or of none, with its lines.
+    fn tell_root(&mut self, edge: Option<Edge>, lines: Vec<Line>) -> Result<()> {
+        let mut arcs = Vec::new(self.instance.alloc);
         if let Some(edge) = edge {
-            arcs.push(reverse(lag(edge)))?;
+            arcs.push(lag(reverse(edge)))?;
         }
-        self.put(&mut lines, reason, edge)?;
         self.tell(0, 0, arcs, lines)
     }
 
     /// The order of an edge always holds, as the other order does not fit.
     pub fn order(&mut self, edge: Edge) -> Result<()> {
-        self.tell_root(LineReason::Force, Some(edge))
+        if !self.is_kept {
+            return Ok(());
+        }
+        let mut lines = Vec::new(self.instance.alloc);
+        lines.push(force(edge))?;
+        self.tell_root(Some(edge), lines)
     }
 
     /// A literal always holds. What holds by lags and orders alone needs no event.
     pub fn root(&mut self, link: Inference) -> Result<()> {
-        match link.reason {
-            LineReason::Arcs => Ok(()),
-            reason => self.tell_root(reason, Some(self.arc(link.literal))),
+        let mut lines = Vec::new(self.instance.alloc);
+        self.put(&mut lines, link)?;
+        if self.is_kept && !lines.is_empty() {
+            let edge = self.edge(link.literal);
+            self.tell_root(Some(edge), lines)?;
         }
+        Ok(())
     }
 
     /// No schedule is left.
     pub fn end(&mut self, reason: LineReason) -> Result<()> {
-        self.tell_root(reason, None)
+        let (mut lines, literal) = (Vec::new(self.instance.alloc), NEVER);
+        self.put(&mut lines, Inference { literal, reason })?;
+        if self.is_kept {
+            self.tell_root(None, lines)?;
+        }
+        Ok(())
+    }
+
+    /// Tells what a record needs of the classes that are more than an order.
+    pub(crate) fn tell_classes(&mut self) -> Result<()> {
+        if !self.is_kept || self.classes.lemmas.is_empty() {
+            return Ok(());
+        }
+        let (classes, edges) = (self.classes.count(), self.classes.edges.values.count());
+        self.either.fill(classes as usize, NO_LEMMA)?;
+        self.further.fill(edges as usize, NO_LEMMA)?;
+        for place in 0..self.classes.proofs.count() {
+            self.tell_delay(place)?;
+        }
+        Ok(())
+    }
+
+    /// Tells a lemma of a class, with the orders that show it.
+    fn tell_delay(&mut self, place: u32) -> Result<()> {
+        let Some(lemma) = self.classes.lemmas.get(place as usize).copied() else {
+            return Ok(());
+        };
+        let alloc = self.instance.alloc;
+        let (mut arcs, mut lines) = (Vec::new(alloc), Vec::new(alloc));
+        for edge in lemma.edges {
+            arcs.push(lag(edge))?;
+        }
+        for Rivals { first, second } in self.classes.proofs.row(place) {
+            lines.push(force(Edge::new(*first, *second, 0)))?;
+        }
+        let number = self.number()?;
+        match lemma.shown {
+            Shown::Either { class } => self.either[class] = number,
+            Shown::Further { edge } => self.further[edge] = number,
+            Shown::Pair { first, second } => {
+                let first = Member::of(self.instance, first);
+                let second = Member::of(self.instance, second);
+                self.late.insert(Late { first, second }, number)?;
+            }
+        }
+        self.tell(number, OWN, arcs, lines)
     }
 
     /// A number that no lemma has.
@@ -302,7 +437,7 @@ impl<'a> Log<'a> {
     fn supposed_all(&self, nogood: &[Literal]) -> Result<Vec<Lag>> {
         let mut arcs = Vec::with_capacity(self.instance.alloc, nogood.len())?;
         for literal in nogood {
-            arcs.push(self.supposed(*literal))?;
+            arcs.push(lag(self.supposed(*literal)))?;
         }
         Ok(arcs)
     }
@@ -312,13 +447,11 @@ impl<'a> Log<'a> {
         let most = nogood.len().saturating_add(links.len());
         let mut lines = Vec::with_capacity(self.instance.alloc, most)?;
         for literal in nogood {
-            if self.order_of(*literal).is_some() {
-                lines.push(force(self.arc(*literal)))?;
-            }
+            let (literal, reason) = (*literal, LineReason::Force);
+            self.put(&mut lines, Inference { literal, reason })?;
         }
-        for (_, Inference { literal, reason }) in links {
-            let edge = (*literal != NEVER).then_some(self.arc(*literal));
-            self.put(&mut lines, *reason, edge)?;
+        for (_, link) in links {
+            self.put(&mut lines, *link)?;
         }
         Ok(lines)
     }
@@ -358,17 +491,33 @@ impl<'a> Log<'a> {
         Ok(())
     }
 
-    /// Keeps a set of members of a clique, which rise, until the events are handed on. Gives its number.
-    pub fn set(&mut self, members: &[u32]) -> Result<u32> {
+    /// Keeps a set of members of a clique, which rise, until the events are handed on, with the orders of members that it
+    /// needs, each as it is not, and the one that it shows. Gives its number.
+    pub(crate) fn set(
+        &mut self,
+        members: &[Member],
+        orders: &[Late],
+        shown: Option<Late>,
+    ) -> Result<u32> {
         if self.is_kept {
             self.sets.push_row(members)?;
+            self.shown.push(shown)?;
+            for late in orders {
+                if let Some(lemma) = self.lemma_of(*late) {
+                    self.uses.values.push(lemma)?;
+                }
+            }
+            self.uses.close()?;
         }
         Ok(self.sets.count().wrapping_sub(1))
     }
 
     /// Hands on the events.
     pub fn take(&mut self) -> Vec<LoggedEvent> {
-        self.sets = Rows::new(self.instance.alloc, 0);
-        mem::replace(&mut self.told, Vec::new(self.instance.alloc))
+        let alloc = self.instance.alloc;
+        self.sets = Rows::new(alloc, Member::default());
+        self.uses = Rows::new(alloc, 0);
+        self.shown.items.clear();
+        mem::replace(&mut self.told, Vec::new(alloc))
     }
 }

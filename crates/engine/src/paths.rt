@@ -1,8 +1,9 @@
 //! Paths: first decisions that arcs say, and the lemma of those that are at fault.
 
 use crate::Inference;
+use crate::imports::edge_of;
 use crate::state::Engine;
-use instance::{Result, narrow};
+use instance::{Edge, Result, narrow};
 use network::Lag;
 use propagation::{Conflict, Literal, NEVER, Reason};
 
@@ -40,18 +41,23 @@ impl Engine<'_> {
     /// What an arc is to this search. One between activities is to say no less than that the second does not end before
     /// the first one starts.
     fn side(&self, arc: Lag) -> Side {
-        let (from, to, count) = (narrow(arc.from), narrow(arc.to), self.instance.count());
+        let (edge, count) = (edge_of(arc), self.instance.count());
+        let Edge { from, to, weight } = edge;
         let is_wide = i32::try_from(arc.weight).is_err();
         if is_wide || from >= count || to >= count || from == to {
             return Side::Other;
         }
-        let least = i64::from(self.instance.durations[to]).wrapping_neg();
-        match self.literal_of(arc) {
-            _ if from != 0 && to != 0 && arc.weight <= least => Side::Other,
+        let is_between = from != 0 && to != 0;
+        let is_weak = weight <= self.instance.durations[to].wrapping_neg();
+        match self.literal_of(edge) {
+            Some(literal) if literal != NEVER => match self.is_all_of(literal, edge) {
+                true => Side::Decision(literal),
+                false => Side::Other,
+            },
+            _ if is_between && is_weak => Side::Other,
             None => Side::Holds,
-            Some(NEVER) if self.edges.precedence(to, from).is_none() => Side::Fails,
-            Some(NEVER) => Side::Other,
-            Some(literal) => Side::Decision(literal),
+            _ if self.edges.precedence(to, from).is_none() => Side::Fails,
+            _ => Side::Other,
         }
     }
 

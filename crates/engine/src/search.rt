@@ -310,6 +310,7 @@ impl Engine<'_> {
 
     /// The values of a schedule are tried first. Where nothing else says so, activities are started in its order.
     pub fn prefer(&mut self, starts: &[i32]) {
-        self.choices.prefer(self.instance, starts, &self.log.pairs);
+        self.choices
+            .prefer(self.instance, starts, &self.log.classes);
     }
 }

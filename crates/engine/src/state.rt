@@ -6,7 +6,8 @@ use crate::marks::Marks;
 use crate::search::conflict_of;
 use crate::{LineReason, Log, Slots};
 use instance::{
-    Edge, Instance, Result, Rows, Settled, Table, Walks, greedy_cliques, settle, start_sequence,
+    Classes, Edge, Groups, Instance, Result, Rows, Settled, Table, Walks, greedy_cliques, settle,
+    start_sequence,
 };
 use propagation::{Cliques, Edges, Energy, Lemmas, Literal, Stop, TimeTable, Trail};
 
@@ -83,7 +84,12 @@ pub struct Engine<'a> {
 }
 
 /// The first values of all slots, for schedules of a makespan at most `most`.
-fn first_values(instance: &Instance, settled: &Settled, most: i32) -> Result<Table<i32>> {
+fn first_values(
+    instance: &Instance,
+    settled: &Settled,
+    classes: &Classes,
+    most: i32,
+) -> Result<Table<i32>> {
     let mut values = Table::new(instance.alloc, 0);
     let walks = &settled.walks;
     for activity in 0..instance.count() {
@@ -92,7 +98,7 @@ fn first_values(instance: &Instance, settled: &Settled, most: i32) -> Result<Tab
         values.push(walks.longest(0, activity).unwrap_or(0))?;
         values.push(tail.wrapping_sub(most).max(back))?;
     }
-    for _ in &settled.open {
+    for _ in 0..classes.count() {
         values.items.extend_from_slice(&[0, -1])?;
     }
     Ok(values)
@@ -129,6 +135,14 @@ fn shared_resources(instance: &Instance, settled: &Settled) -> Result<Vec<u32>> 
         }
     }
     Ok(shared)
+}
+
+/// The classes of open orders. A search for any schedule goes without groups.
+fn classes_of(instance: &Instance, settled: &Settled, is_thorough: bool) -> Result<Classes> {
+    match is_thorough {
+        true => Groups::new(instance, &settled.walks)?.classes(instance, settled),
+        false => Classes::of_pairs(instance, &settled.open),
+    }
 }
 
 /// The cliques of a project that a search looks at.
@@ -171,15 +185,16 @@ struct Propagators<'a> {
 fn propagators_of<'a>(
     instance: &'a Instance,
     settled: &Settled,
+    classes: &Classes,
     resources: &[u32],
     options: Options,
 ) -> Result<Propagators<'a>> {
-    let edges = Edges::new(instance, settled)?;
+    let edges = Edges::new(instance, settled, classes)?;
     let cliques = cliques_of(instance, settled, &edges, options.is_thorough)?;
     let table = TimeTable::new(instance, resources)?;
     let looked_at = if options.is_thorough { resources } else { &[] };
     let energy = Energy::new(instance, looked_at)?;
-    let values = first_values(instance, settled, options.most)?;
+    let values = first_values(instance, settled, classes, options.most)?;
     Ok(Propagators {
         trail: Trail::new(instance.alloc, values)?,
         edges,
@@ -201,6 +216,7 @@ struct Learning<'a> {
 fn learning_of<'a>(
     instance: &'a Instance,
     settled: &Settled,
+    classes: Classes,
     trail: &Trail,
     only_orders: bool,
     options: Options,
@@ -210,7 +226,7 @@ fn learning_of<'a>(
     Ok(Learning {
         lemmas,
         choices,
-        log: Log::new(instance, &settled.open, options.has_log, options.slots)?,
+        log: Log::new(instance, classes, options.has_log, options.slots)?,
     })
 }
 
@@ -219,9 +235,10 @@ impl<'a> Engine<'a> {
     pub fn open(instance: &'a Instance, walks: Walks, options: Options) -> Result<Engine<'a>> {
         let settled = settle(instance, walks, options.most)?;
         let resources = shared_resources(instance, &settled)?;
-        let propagators = propagators_of(instance, &settled, &resources, options)?;
+        let classes = classes_of(instance, &settled, options.is_thorough)?;
+        let propagators = propagators_of(instance, &settled, &classes, &resources, options)?;
         let (trail, only_orders) = (&propagators.trail, resources.is_empty());
-        let learning = learning_of(instance, &settled, trail, only_orders, options)?;
+        let learning = learning_of(instance, &settled, classes, trail, only_orders, options)?;
         let Settled {
             walks,
             forced,
@@ -241,6 +258,7 @@ impl<'a> Engine<'a> {
         if is_infeasible || !self.has_room() {
             return self.refute(LineReason::Arcs);
         }
+        self.log.tell_classes()?;
         if let Some(conflict) = conflict_of(self.begin())? {
             self.log_root()?;
             self.analyse(conflict)?;

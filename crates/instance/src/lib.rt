@@ -4,14 +4,21 @@
 //! Nothing here needs to be trusted: whoever takes what a search says has it checked.
 #![tactic(auto)]
 
+mod classes;
 mod cliques;
+mod groups;
+mod member;
 mod numbers;
 mod orders;
 mod rows;
 mod table;
+mod two_groups;
 mod walks;
 
+pub use classes::{Classes, DelayLemma, Shown, order_edge, reverse};
 pub use cliques::greedy_cliques;
+pub use groups::Groups;
+pub use member::Member;
 pub use numbers::{Edge, Instance};
 pub use orders::{Rivals, Settled, settle, start_sequence};
 pub use rows::Rows;

@@ -44,8 +44,7 @@ impl Settled {
         let head = self.walks.longest(0, order.from).unwrap_or(0);
         let tail = self.walks.longest(order.to, instance.end()).unwrap_or(0);
         let end = head.saturating_add(order.weight).saturating_add(tail);
-        let back = 1i32.wrapping_sub(order.weight);
-        end <= most && !self.walks.reaches(order.to, order.from, back)
+        end <= most && self.walks.admits(order)
     }
 
     /// Puts in the order of a pair if only one fits. Whether it stays open.

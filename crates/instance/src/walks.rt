@@ -1,7 +1,7 @@
 //! The greatest weights of walks between activities.
 
 use crate::numbers::{Edge, Instance};
-use crate::{Result, Table};
+use crate::{Result, Table, narrow};
 use std::alloc::Global;
 
 /// No walk. All weights of walks are above it.
@@ -79,6 +79,41 @@ impl Walks {
     /// Whether a walk has at least this weight.
     pub fn reaches(&self, from: u32, to: u32, weight: i32) -> bool {
         self.longest(from, to).is_some_and(|known| known >= weight)
+    }
+
+    /// The greatest weight of a walk, if none over the start is as great: that is all that bounds don't tell.
+    pub fn beside_start(&self, from: u32, to: u32) -> Option<i32> {
+        let weight = self.longest(from, to)?;
+        let (Some(back), Some(head)) = (self.longest(from, 0), self.longest(0, to)) else {
+            return Some(weight);
+        };
+        (weight > back.wrapping_add(head)).then_some(weight)
+    }
+
+    /// The weight of the walk over an edge, with the longest ones to it and from it; none where there is no walk.
+    pub(crate) fn over(&self, from: u32, edge: Edge, to: u32) -> Option<i32> {
+        let (first, last) = (self.longest(from, edge.from)?, self.longest(edge.to, to)?);
+        Some(first.wrapping_add(edge.weight).wrapping_add(last))
+    }
+
+    /// Whether an edge closes no walk of positive weight.
+    pub(crate) fn admits(&self, edge: Edge) -> bool {
+        !self.reaches(edge.to, edge.from, 1i32.wrapping_sub(edge.weight))
+    }
+
+    /// The walks between some activities, each by its place in their list.
+    pub(crate) fn among(&self, activities: &[u32]) -> Result<Walks> {
+        let mut weights = Table::new(self.alloc, NONE);
+        for from in activities {
+            for to in activities {
+                weights.push(self.at(*from, *to))?;
+            }
+        }
+        Ok(Walks {
+            alloc: self.alloc,
+            count: narrow(activities.len()),
+            weights,
+        })
     }
 
     /// Whether one of two activities ends before the other starts.

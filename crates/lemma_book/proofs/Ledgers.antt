@@ -17,7 +17,7 @@ use Rattle.lemma_book.proofs.TooMuch.{too_much_out}
 use Rattle.lemma_book.specs.Ledger.{IsDraft, IsRootMatrixOf, IsSound, Leads, LedgerOf, MayLead, MayTake, asks_too_much, ceiling_of, deadline, first_roots}
 use Rattle.lemma_book.specs.Ledger.{own_of, root_of, with_lemma, with_schedule, with_slot, without_lemma}
 use Rattle.lemma_book.specs.Premises.{PremisesOf, first_premises, ledger_of}
-use Rattle.lemma_book.proofs.Slotted.{in_emptied, in_shelved}
+use Rattle.lemma_proof.proofs.Slotted.{in_emptied, in_shelved}
 use Rattle.lemma_proof.proofs.Truth.{none_meets_refuted}
 use Rattle.lemma_proof.proofs.Used.{light_reverse}
 use Rattle.lemma_proof.specs.Reasons.{reverse_of}

@@ -1,5 +1,5 @@
 -- Premises stay premises, and what lines refute beside some they refute beside those that cover them.
-use Rattle.std.proofs.Common.{true, ◌&&◌, ◌==◌, ◌≡◌, sym, ap, ◌∙◌, subst, ℕ, ℤ, arith, ◌++◌, ◌∷◌, [], List, append_assoc, slice_set, Option, None, Some, ⊎_elim}
+use Rattle.std.proofs.Common.{Bool, true, false, ◌&&◌, ◌==◌, ◌≡◌, sym, ap, ◌∙◌, subst, ℕ, ℤ, arith, ◌++◌, ◌∷◌, [], List, append_assoc, slice_set, Option, None, Some, ⊎_elim}
 use Rattle.std.specs.List.{All, Contains}
 use Rattle.std.specs.Bool.{Decides}
 use Rattle.std.specs.Ordering.{int_eq}
@@ -15,12 +15,13 @@ use Rattle.lemma_proof.proofs.Existing.{cycle_part}
 use Rattle.lemma_proof.proofs.Implying.{implied_arc}
 use Rattle.lemma_proof.specs.declared.line.Line.{Line}
 use Rattle.lemma_proof.specs.Bench.{BenchOf}
+use Rattle.lemma_proof.specs.Slots.{LetsGo}
 use Rattle.lemma_proof.specs.Lines.{IsArc, IsIn, IsRefuted, Slots}
 use Rattle.lemma_proof.proofs.Refuting.{cycle_refutes}
 use Rattle.lemma_proof.proofs.Staying.{Gives, refuted_given}
 use Rattle.lemma_book.specs.Ledger.{IsRootMatrixOf, first_roots, with_slot}
-use Rattle.lemma_book.specs.Premises.{ArePremises, Covers, PremisesOf, premises_of, root_arcs, with_roots}
-use Rattle.lemma_book.proofs.Slotted.{in_emptied, in_shelved}
+use Rattle.lemma_book.specs.Premises.{ArePremises, Covers, Empties, PremisesOf, premises_of, root_arcs, with_roots}
+use Rattle.lemma_proof.proofs.Slotted.{in_emptied, in_shelved}
 
 pub first_are : (p : Problem) (roots : List Lag) (lemmas : Slots) (bench : Option BenchOf) → roots ≡ first_roots p
     → lemmas ≡ [] → All (IsLight (activity_count p)) roots → IsRootMatrixOf p (rules p ++ first_roots p) bench
@@ -71,6 +72,17 @@ emptied_are x bench slot are = record {
   light = are.light;
   root = are.root;
 }
+
+-- the lemma of a slot goes, if there is one
+pub gone_are : (x : PremisesOf) (bench : Option BenchOf) (slot : ℕ) (there : Bool) (lemmas : Slots) → ArePremises x bench
+    → LetsGo x.lemmas slot there lemmas → ArePremises (record x { lemmas = lemmas }) bench
+gone_are x bench slot true lemmas are goes = rw goes.1 (emptied_are x bench slot are)
+gone_are x bench slot false lemmas are goes = rw goes.1 are
+
+pub gone_empties : (x : PremisesOf) (slot : ℕ) (there : Bool) (lemmas : Slots) → LetsGo x.lemmas slot there lemmas
+    → Empties x slot there (record x { lemmas = lemmas })
+gone_empties x slot true lemmas goes = (goes.0, ap (λ (l : Slots). record x { lemmas = l }) goes.1)
+gone_empties x slot false lemmas goes = (goes.0, ap (λ (l : Slots). record x { lemmas = l }) goes.1)
 
 -- ---- refuted arcs
 

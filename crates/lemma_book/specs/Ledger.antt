@@ -17,6 +17,7 @@ use Rattle.longest_path.specs.Insert.{arc_of}
 use Rattle.lemma_proof.specs.Reasons.{reverse_of}
 use Rattle.lemma_proof.specs.declared.line.Line.{Line}
 use Rattle.lemma_proof.specs.Bench.{BenchOf}
+pub use Rattle.lemma_proof.specs.Slots.{IsFilled, with_slot}
 use Rattle.lemma_proof.specs.Lines.{IsArc, IsIn, IsRefuted, MeetsNone, Slots, impossible, picked}
 use Rattle.std.specs.declared.alloc.Global.{Global}
 use Rattle.lemma_book.specs.declared.deadline.TheConstants.{MAX_CEILING}
@@ -76,10 +77,6 @@ first_roots p = deadline p (pos (horizon p + 1)) ∷ (if asks_too_much p then im
 abbrev pub first_ledger : Problem → LedgerOf
 first_ledger p = record { project = p; best = None; roots = first_roots p; lemmas = [] }
 
--- empty slots more, so that there is this one
-abbrev pub with_slot : Slots → ℕ → Slots
-with_slot lemmas slot = lemmas ++ replicate (slot + 1 - length lemmas) None
-
 -- a lemma is kept: one of no arc ends the search, one of one arc makes its reverse an arc of the root, and one of more
 -- fills a slot
 abbrev pub with_lemma : LedgerOf → ℕ → List Lag → LedgerOf
@@ -106,10 +103,6 @@ abbrev pub IsDraft : LedgerOf → Type 0
 IsDraft l = IsBetween (pos 0) MAX_CEILING (ceiling_of l)
 
 -- ---- Who may change a ledger.
-
--- there is a lemma in the slot
-abbrev pub IsFilled : Slots → ℕ → Type 0
-IsFilled lemmas slot = (lemma : List Lag) × IsIn lemmas slot lemma
 
 -- the slot is one of the limit, and empty
 pub record IsFree (lemmas : Slots) (slot : ℕ) : Type 0 where

@@ -7,7 +7,6 @@ mod draft;
 mod leading;
 mod ledger;
 mod premises;
-mod slots;
 mod too_much;
 
 pub use draft::Draft;

@@ -8,13 +8,13 @@ ghost use Rattle.network.specs.Walk.{HasNoPositiveCycle, HasPositiveCycle, IsGre
 ghost use Rattle.lemma_proof.specs.Heads.{IsLight};
 ghost use Rattle.lemma_proof.specs.Lines.{IsArc, IsIn, IsRefuted, picked};
 ghost use Rattle.lemma_book.specs.declared.ledger.TheConstants.{MAX_SLOTS};
-ghost use Rattle.lemma_book.specs.Ledger.{HasRoom, IsFilled, with_slot};
+ghost use Rattle.lemma_proof.specs.Slots.{HaveDelays, IsFilled, IsSmall, with_slot};
+ghost use Rattle.lemma_book.specs.Ledger.{HasRoom, IsFree};
 ghost use Rattle.lemma_book.specs.Premises.{Empties, Follows, first_premises, root_arcs, with_roots};
 
 use crate::deadline::first_root;
 use crate::ledger::MAX_SLOTS;
-use crate::slots::{has_room, is_filled, make_slot};
-use lemma_proof::{Bench, Lags, Line, are_arcs};
+use lemma_proof::{Bench, Interval, Lags, LemmaSlots, Line, are_arcs};
 use network::{Lag, Project};
 use std::alloc::{AllocError, Global};
 use std::marker::Model;
@@ -29,7 +29,7 @@ pub struct Premises<'a> {
     roots: Vec<Lag>,
     /// The matrix of the root's arcs. None where they close a walk of positive weight.
     bench: Option<Bench>,
-    lemmas: Vec<Option<Lags>>,
+    lemmas: LemmaSlots,
 }
 
 impl<'a> Model for Premises<'a> {
@@ -37,9 +37,27 @@ impl<'a> Model for Premises<'a> {
 
     ghost Value = { PremisesOf };
 
-    ghost view = { λ s. premises_of s.project.now s.roots.items s.lemmas.items };
+    ghost view = { λ s. premises_of s.project.now s.roots.items s.lemmas };
 
-    ghost invariant = { λ s. ArePremises (premises_of s.project.now s.roots.items s.lemmas.items) s.bench };
+    ghost invariant = { λ s. ArePremises (premises_of s.project.now s.roots.items s.lemmas) s.bench };
+}
+
+/// Whether a slot is one of the limit, and empty.
+fn is_free(lemmas: &LemmaSlots, slot: usize) -> bool
+    ensures { IsTrue result ↔ IsFree lemmas.now slot }
+{
+    slot < MAX_SLOTS && !lemmas.is_filled(slot)
+}
+
+/// Whether a lemma of these arcs has the slot that it needs.
+fn has_room(lemmas: &LemmaSlots, slot: usize, arcs: &[Lag]) -> bool
+    ensures { IsTrue result ↔ HasRoom lemmas.now slot arcs.now }
+{
+    match arcs {
+        [] => true,
+        [_] => true,
+        _ => is_free(lemmas, slot),
+    }
 }
 
 /// The arcs that come after so many.
@@ -64,7 +82,7 @@ impl<'a> Premises<'a> {
             project,
             roots,
             bench,
-            lemmas: Vec::new(alloc),
+            lemmas: LemmaSlots::new(alloc),
         })
     }
 
@@ -86,17 +104,23 @@ impl<'a> Premises<'a> {
     pub fn lemma_in(&self, slot: usize) -> Option<&[Lag]>
         ensures { MatchOption result (¬ IsFilled self.now.lemmas slot) (λ arcs. IsIn self.now.lemmas slot arcs.now) }
     {
-        match self.lemmas.get(slot) {
-            Some(Some(arcs)) => Some(arcs.as_slice()),
-            _ => None,
-        }
+        self.lemmas.lemma_in(slot)
+    }
+
+    /// Whether the lemma of some slot says delays by which two intervals have no time in common.
+    pub fn has_delays(&self, one: Interval, other: Interval) -> bool
+        requires one { IsSmall one }
+        requires other { IsSmall other }
+        ensures { IsTrue result ↔ HaveDelays self.now.lemmas one other }
+    {
+        self.lemmas.has_delays(one, other)
     }
 
     /// Whether a lemma of these arcs has the slot that it needs: one of two arcs and more an empty one.
     pub fn has_room(&self, slot: usize, arcs: &[Lag]) -> bool
         ensures { IsTrue result ↔ HasRoom self.now.lemmas slot arcs.now }
     {
-        has_room(self.lemmas.as_slice(), slot, arcs)
+        has_room(&self.lemmas, slot, arcs)
     }
 
     /// The places of the lines that show something new, if the lines refute these arcs beside the premises.
@@ -113,13 +137,7 @@ impl<'a> Premises<'a> {
             }
             return Ok(None);
         };
-        bench.refute(
-            self.alloc,
-            self.project,
-            self.lemmas.as_slice(),
-            arcs,
-            lines,
-        )
+        bench.refute(self.alloc, self.project, &self.lemmas, arcs, lines)
     }
 
     /// Adds an arc to the root's.
@@ -181,8 +199,7 @@ impl<'a> Premises<'a> {
         }) }
         ensures unchanged { OnErr result (self.new ≡ self.old) }
     {
-        make_slot(&mut self.lemmas, slot)?;
-        self.lemmas[slot] = Some(arcs);
+        self.lemmas.put(slot, arcs)?;
         Ok(())
     }
 
@@ -190,11 +207,7 @@ impl<'a> Premises<'a> {
     pub fn let_go(&mut self, slot: usize) -> bool
         ensures { Empties self.old slot result self.new }
     {
-        if !is_filled(self.lemmas.as_slice(), slot) {
-            return false;
-        }
-        self.lemmas[slot] = None;
-        true
+        self.lemmas.let_go(slot)
     }
 
     /// The least end by the root's arcs. None where they close a walk of positive weight.

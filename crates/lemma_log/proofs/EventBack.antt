@@ -20,6 +20,7 @@ use Rattle.lemma_log.specs.Reading.{frame_in, with_left, framed, read_in}
 use Rattle.lemma_log.proofs.Digits.{number_again}
 use Rattle.lemma_log.proofs.PartsBack.{number_back, opened, amount_back, many_back, lag_back}
 use Rattle.lemma_log.proofs.LineBack.{lines_back}
+use Rattle.lemma_log.proofs.Sizes.{lemma_short}
 
 -- ---- bodies
 
@@ -71,9 +72,10 @@ body_back (event.Claim c) h = ap event_in (sym (append-nil (claim_text c))) ∙ 
 
 -- ---- limits
 
-long_opened : (n : ℕ) (rest : List ℕ) → n < 2 ^ 63 → is_long (number_text n ++ rest) ≡ is_long_at (Some (record { value = n; left = rest }))
+long_opened : (n : ℕ) (rest : List ℕ) → n < 2 ^ 63
+    → is_long (number_text n ++ rest) ≡ is_long_at (length (number_text n ++ rest)) (Some (record { value = n; left = rest }))
 unfolding is_long
-long_opened n rest h = ap is_long_at (number_back n rest h)
+long_opened n rest h = ap (is_long_at (length (number_text n ++ rest))) (number_back n rest h)
 
 -- an event of another kind
 other_kind : (n kind at : ℕ) (rest : List ℕ) → n ≡ 4 * at + suc kind → kind < 3 → IsIndex at → is_long (number_text n ++ rest) ≡ false
@@ -81,16 +83,20 @@ other_kind n kind at rest e few small =
     let rem : n % 4 ≡ suc kind = omega arith in
     long_opened n rest (omega arith) ∙ rw (rem, eqb-suc-zero kind) refl
 
-short_lemma : (slot count : ℕ) (rest : List ℕ) → IsIndex slot → count ≤ 1024 → is_long (number_text (4 * slot) ++ (number_text count ++ rest)) ≡ false
-short_lemma slot count rest small few =
+short_lemma : (slot count : ℕ) (rest : List ℕ) → IsIndex slot → count ≤ 1024
+    → length (number_text (4 * slot) ++ (number_text count ++ rest)) ≤ 1048576
+    → is_long (number_text (4 * slot) ++ (number_text count ++ rest)) ≡ false
+short_lemma slot count rest small few short =
     let rem : 4 * slot % 4 ≡ 0 = omega arith in
     let size : count < 2 ^ 63 = omega arith in
-    long_opened (4 * slot) (number_text count ++ rest) (omega arith) ∙ rw (rem, number_back count rest size, le-ltb 1024 count few) refl
+    long_opened (4 * slot) (number_text count ++ rest) (omega arith)
+    ∙ rw (rem, le-ltb 1048576 (length (number_text (4 * slot) ++ (number_text count ++ rest))) short, number_back count rest size, le-ltb 1024 count few) refl
 
 body_is_short : (e : Event) → IsWritableBody e → is_long (body_text e) ≡ false
 body_is_short (event.Lemma slot arcs lines) h =
     ap is_long (parts4 (number_text (4 * slot)) (number_text (length arcs)) (flat_map arc_text arcs) (flat_map line_text lines))
     ∙ short_lemma slot (length arcs) (flat_map arc_text arcs ++ flat_map line_text lines) h.0 h.1
+    (lemma_short slot arcs lines h.1 h.4)
 body_is_short (event.Drop slot) h = ap is_long (sym (append-nil (number_text (4 * slot + 1)))) ∙ other_kind (4 * slot + 1) 0 slot [] refl (omega arith) h
 body_is_short (event.Schedule starts) h = other_kind (4 * length starts + 2) 1 (length starts) (flat_map signed_text starts) refl (omega arith) h.0
 body_is_short (event.Claim (verdict.Optimal makespan)) h = other_kind 3 2 0 (signed_text makespan) refl (omega arith) (omega arith)

@@ -8,3 +8,4 @@ pub mod Many
 pub mod PartsBack
 pub mod Spelled
 pub mod Suffix
+mod Sizes

@@ -8,13 +8,14 @@ use Rattle.std.proofs.lemmas.Int.{ints}
 use Rattle.std.proofs.lemmas.List.{length-append}
 use Rattle.network.specs.declared.parts.Lag.{Lag}
 use Rattle.network.specs.Problem.{IsWithin}
+use Rattle.lemma_proof.specs.declared.line.Interval.{Interval}
 use Rattle.lemma_proof.specs.declared.line.Line.{Line}
 use Rattle.lemma_proof.specs.declared.line.Line.TheVariants.{Force, Use, Push}
-use Rattle.lemma_proof.specs.declared.line.WindowOverload.TheVariants.{Load, Clique}
+use Rattle.lemma_proof.specs.declared.line.WindowOverload.TheVariants.{Load, Clique, Tour}
 use Rattle.lemma_log.specs.Numbers.{digits_in, number_text, zigzag, signed_text}
-use Rattle.lemma_log.specs.Text.{arc_text, window_text, line_text, IsIndex, IsAmount, IsWritableArc, IsWritableLine}
-use Rattle.lemma_log.specs.Reading.{then_read, part_as, number_in, signed_in, load_in, short_load_in, clique_in, pushed, line_of, line_in, lines_in}
-use Rattle.lemma_log.proofs.PartsBack.{index_back, opened, signed_back, amount_back, many_back, lag_back}
+use Rattle.lemma_log.specs.Text.{arc_text, interval_text, window_text, line_text, IsIndex, IsAmount, IsWritableArc, IsWritableInterval, IsWritableLine}
+use Rattle.lemma_log.specs.Reading.{then_read, part_as, number_in, signed_in, load_in, short_load_in, clique_in, flagged, flagged_tour_in, interval_in, sized, pushed, line_of, line_in, lines_in}
+use Rattle.lemma_log.proofs.PartsBack.{index_back, number_back, opened, signed_back, amount_back, many_back, lag_back}
 use Rattle.lemma_log.proofs.Lined.{more_lines}
 
 -- ---- windows
@@ -60,6 +61,31 @@ clique_back from to members rest hf ht all =
       size_back from to (flat_map number_text members ++ rest) hf ht,
       end_again from to,
       many_back number_in number_text IsIndex index_back members rest all,
+    )
+
+interval_parts : (a b c d : List ℕ) → ((a ++ b) ++ c) ++ d ≡ a ++ (b ++ (c ++ d))
+interval_parts a b c d = simp append_assoc
+
+interval_back : (m : Interval) (rest : List ℕ) → IsWritableInterval m → interval_in (interval_text m ++ rest) ≡ Some (record { value = m; left = rest })
+unfolding interval_in
+interval_back m rest h =
+    ap interval_in (interval_parts (number_text m.activity) (signed_text m.at) (number_text m.length) rest)
+    ∙ opened m.activity (signed_text m.at ++ (number_text m.length ++ rest))
+    (λ activity left. then_read (signed_in left) (sized activity)) (omega (arith, h.activity))
+    ∙ ap (λ part. then_read part (sized m.activity)) (amount_back m.at (number_text m.length ++ rest) h.at)
+    ∙ ap (part_as (λ size. record { activity = m.activity; at = m.at; length = size })) (index_back m.length rest h.size)
+
+flagged_back : (flag : ℕ) (from to : ℤ) (intervals : List Interval) (rest : List ℕ) → flag < 2 → IsAmount from
+    → IsAmount to → AllByRecursion IsWritableInterval intervals → flagged_tour_in (length intervals)
+    (signed_text from ++ (signed_text (to -ℤ from) ++ (number_text flag ++ (flat_map interval_text intervals ++ rest))))
+    ≡ Some (record { value = record { flag = flag; tour = Tour from to intervals }; left = rest })
+flagged_back flag from to intervals rest small hf ht all =
+    rw (
+      amount_back from (signed_text (to -ℤ from) ++ (number_text flag ++ (flat_map interval_text intervals ++ rest))) hf,
+      size_back from to (number_text flag ++ (flat_map interval_text intervals ++ rest)) hf ht,
+      number_back flag (flat_map interval_text intervals ++ rest) (omega (arith, small)),
+      many_back interval_in interval_text IsWritableInterval interval_back intervals rest all,
+      end_again from to,
     )
 
 -- ---- lines
@@ -120,6 +146,38 @@ shown_clique from to members e few hf ht all he rest =
     (clique_back from to members (arc_text e ++ rest) hf ht all)
     ∙ ap (part_as (λ f. Push (Some f) (Clique from to members))) (lag_back e rest he))
 
+parts6 : (a b c d e f g : List ℕ)
+    → ((((a ++ (b ++ c)) ++ d) ++ e) ++ f) ++ g ≡ a ++ (b ++ (c ++ (d ++ (e ++ (f ++ g)))))
+parts6 a b c d e f g = simp append_assoc
+
+bare_tour : (from to : ℤ) (intervals : List Interval) → IsIndex (length intervals) → IsAmount from → IsAmount to
+    → AllByRecursion IsWritableInterval intervals → IsBack
+    (((number_text (8 * length intervals + 7) ++ window_text from (to -ℤ from)) ++ number_text 0) ++
+    flat_map interval_text intervals) (Push None (Tour from to intervals))
+bare_tour from to intervals few hf ht all rest =
+    ap line_in (parts5 (number_text (8 * length intervals + 7)) (signed_text from) (signed_text (to -ℤ from))
+    (number_text 0) (flat_map interval_text intervals) rest)
+    ∙ (line_opened (8 * length intervals + 7) 7 (length intervals)
+    (signed_text from ++ (signed_text (to -ℤ from) ++ (number_text 0 ++ (flat_map interval_text intervals ++ rest))))
+    refl (omega arith) few
+    ∙ ap (λ part. then_read part (λ found. flagged found.flag found.tour))
+    (flagged_back 0 from to intervals rest (omega arith) hf ht all))
+
+shown_tour : (from to : ℤ) (intervals : List Interval) (e : Lag) → IsIndex (length intervals) → IsAmount from
+    → IsAmount to → AllByRecursion IsWritableInterval intervals → IsWritableArc e → IsBack
+    ((((number_text (8 * length intervals + 7) ++ window_text from (to -ℤ from)) ++ number_text 1) ++
+    flat_map interval_text intervals) ++ arc_text e) (Push (Some e) (Tour from to intervals))
+shown_tour from to intervals e few hf ht all he rest =
+    ap line_in (parts6 (number_text (8 * length intervals + 7)) (signed_text from) (signed_text (to -ℤ from))
+    (number_text 1) (flat_map interval_text intervals) (arc_text e) rest)
+    ∙ (line_opened (8 * length intervals + 7) 7 (length intervals)
+    (signed_text from ++
+    (signed_text (to -ℤ from) ++ (number_text 1 ++ (flat_map interval_text intervals ++ (arc_text e ++ rest))))) refl
+    (omega arith) few
+    ∙ ap (λ part. then_read part (λ found. flagged found.flag found.tour))
+    (flagged_back 1 from to intervals (arc_text e ++ rest) (omega arith) hf ht all)
+    ∙ ap (part_as (λ f. Push (Some f) (Tour from to intervals))) (lag_back e rest he))
+
 long_load : (r : ℕ) (from to : ℤ) (e : Lag) → IsIndex r → IsAmount from → IsAmount to → IsWritableArc e
     → IsBack ((number_text (8 * r + 4) ++ window_text from (to -ℤ from)) ++ arc_text e) (Push (Some e) (Load r from to))
 long_load r from to e hr hf ht he rest =
@@ -151,6 +209,8 @@ line_back (Force pair) h rest =
     (index_back pair.after rest h.1))
 line_back (Push None (Load r from to)) h rest = bare_load r from to h.0 h.1 h.2 rest
 line_back (Push None (Clique from to members)) h rest = bare_clique from to members h.0 h.1 h.2 h.3 rest
+line_back (Push None (Tour from to intervals)) h rest = bare_tour from to intervals h.0 h.1 h.2 h.3 rest
+line_back (Push (Some e) (Tour from to intervals)) h rest = shown_tour from to intervals e h.0.0 h.0.1 h.0.2 h.0.3 h.1 rest
 line_back (Push (Some e) (Load r from to)) h rest = shown_load (int_eq (to -ℤ from) (pos 1)) r from to e refl h.0.0 h.0.1 h.0.2 h.1 rest
 line_back (Push (Some e) (Clique from to members)) h rest = shown_clique from to members e h.0.0 h.0.1 h.0.2 h.0.3 h.1 rest
 

@@ -8,15 +8,16 @@ use Rattle.network.specs.declared.parts.Lag.{Lag}
 use Rattle.network.specs.Problem.{IsBetween}
 use Rattle.lemma_proof.specs.declared.line.Line.{Line}
 use Rattle.lemma_proof.specs.declared.line.Line.TheVariants.{Force, Use, Push}
+use Rattle.lemma_proof.specs.declared.line.Interval.{Interval}
 use Rattle.lemma_proof.specs.declared.line.WindowOverload.{WindowOverload}
-use Rattle.lemma_proof.specs.declared.line.WindowOverload.TheVariants.{Load, Clique}
+use Rattle.lemma_proof.specs.declared.line.WindowOverload.TheVariants.{Load, Clique, Tour}
 use Rattle.lemma_log.specs.declared.event.Event.{Event}
 use Rattle.lemma_log.specs.declared.event.Event.TheVariants as event
 use Rattle.network.specs.declared.verdict.Verdict.TheVariants as verdict
 use Rattle.lemma_log.specs.declared.fault.DecodeFault.{DecodeFault}
 use Rattle.lemma_log.specs.declared.fault.DecodeFault.TheVariants as fault
 use Rattle.lemma_log.specs.declared.number.TheConstants.{MAX_DIGITS}
-use Rattle.lemma_log.specs.declared.writable.TheConstants.{MAX_ARCS}
+use Rattle.lemma_log.specs.declared.writable.TheConstants.{MAX_ARCS, MAX_BYTES}
 use Rattle.lemma_log.specs.Numbers.{Part, digits_in}
 use Rattle.lemma_log.specs.Text.{title_text}
 
@@ -90,6 +91,25 @@ abbrev pub clique_in : ℕ → List ℕ → Option (Part WindowOverload)
 clique_in count bytes =
     then_read (signed_in bytes) (λ from left. then_read (signed_in left) (λ size more. part_as (Clique from (from +ℤ size)) (members_in count more)))
 
+abbrev pub sized : ℕ → ℤ → List ℕ → Option (Part Interval)
+sized activity at bytes = part_as (λ size. record { activity = activity; at = at; length = size }) (number_in bytes)
+
+unfoldable pub interval_in : List ℕ → Option (Part Interval)
+interval_in bytes = then_read (number_in bytes) (λ activity left. then_read (signed_in left) (sized activity))
+
+-- a tour, and what says whether it shows an arc
+pub record Flagged : Type 0 where
+  pub flag : ℕ
+  pub tour : WindowOverload
+
+abbrev pub flagged_of : ℤ → ℤ → ℕ → List Interval → Flagged
+flagged_of from size flag intervals = record { flag = flag; tour = Tour from (from +ℤ size) intervals }
+
+abbrev pub flagged_tour_in : ℕ → List ℕ → Option (Part Flagged)
+flagged_tour_in count bytes =
+    then_read (signed_in bytes) (λ from left. then_read (signed_in left) (λ size more. then_read (number_in more)
+    (λ flag rest. part_as (flagged_of from size flag) (many_in interval_in count rest))))
+
 -- the overload of a kind, and of the number that has it
 abbrev pub overload_of : ℕ → ℕ → List ℕ → Option (Part WindowOverload)
 overload_of kind at bytes =
@@ -113,6 +133,16 @@ pushed kind over bytes = if kind == 2 || kind == 5 then bare_line over bytes els
 abbrev pub push_of : ℕ → ℕ → List ℕ → Option (Part Line)
 push_of kind at bytes = then_read (overload_of kind at bytes) (pushed kind)
 
+-- the line of a tour: one that shows an arc, or not
+abbrev pub flagged : ℕ → WindowOverload → List ℕ → Option (Part Line)
+flagged flag tour bytes =
+    if flag == 0 then bare_line tour bytes
+    else if flag == 1 then arc_line tour bytes
+    else None
+
+abbrev pub tour_of : ℕ → List ℕ → Option (Part Line)
+tour_of count bytes = then_read (flagged_tour_in count bytes) (λ part. flagged part.flag part.tour)
+
 abbrev pub force_of : ℕ → List ℕ → Option (Part Line)
 force_of before bytes = part_as (λ after. Force (record { before = before; after = after })) (number_in bytes)
 
@@ -121,6 +151,7 @@ abbrev pub line_of : ℕ → ℕ → List ℕ → Option (Part Line)
 line_of kind at bytes =
     if kind == 0 then Some (record { value = Use at; left = bytes })
     else if kind == 1 then force_of at bytes
+    else if kind == 7 then tour_of at bytes
     else push_of kind at bytes
 
 unfoldable pub line_in : List ℕ → Option (Part Line)
@@ -180,14 +211,14 @@ abbrev pub is_beyond : Option (Part ℕ) → Bool
 is_beyond (Some count) = nat_lt MAX_ARCS count.value
 is_beyond None = false
 
--- of a number that has the kind, and what follows
-abbrev pub is_long_at : Option (Part ℕ) → Bool
-is_long_at (Some first) = if first.value % 4 == 0 then is_beyond (number_in first.left) else false
-is_long_at None = false
+-- of so many bytes, a number that has the kind, and what follows
+abbrev pub is_long_at : ℕ → Option (Part ℕ) → Bool
+is_long_at size (Some first) = if first.value % 4 == 0 then nat_lt MAX_BYTES size || is_beyond (number_in first.left) else false
+is_long_at size None = false
 
--- whether the bytes of an event say that it is a lemma of more arcs than it may have
+-- whether the bytes of an event are those of a lemma, and more than it may have, or say that it has more arcs than it may
 unfoldable pub is_long : List ℕ → Bool
-is_long bytes = is_long_at (number_in bytes)
+is_long bytes = is_long_at (length bytes) (number_in bytes)
 
 -- the event whose bytes these all are, where it may be so long
 abbrev pub known : Option Event → Result Event DecodeFault

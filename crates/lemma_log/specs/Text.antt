@@ -1,19 +1,20 @@
 -- The bytes of a log.
 use Rattle.std.specs.Prelude.{◌<◌, ◌≤◌, ℕ, ℤ, pos, ◌+◌, ◌*◌, ◌^◌, ◌-ℤ◌, neg_ℤ, if◌then◌else◌, ◌==◌, Bool, true, false}
 use Rattle.std.specs.Prelude.{Some, None, List, [], ◌∷◌, ◌++◌, codes, length}
-use Rattle.std.specs.List.{flat_map, AllByRecursion}
+use Rattle.std.specs.List.{flat_map, sum_by, AllByRecursion}
 use Rattle.std.specs.Ordering.{int_eq}
 use Rattle.network.specs.declared.parts.Lag.{Lag}
 use Rattle.network.specs.Problem.{IsWithin}
 use Rattle.lemma_proof.specs.declared.line.Line.{Line}
 use Rattle.lemma_proof.specs.declared.line.Line.TheVariants.{Force, Use, Push}
+use Rattle.lemma_proof.specs.declared.line.Interval.{Interval}
 use Rattle.lemma_proof.specs.declared.line.WindowOverload.{WindowOverload}
-use Rattle.lemma_proof.specs.declared.line.WindowOverload.TheVariants.{Load, Clique}
+use Rattle.lemma_proof.specs.declared.line.WindowOverload.TheVariants.{Load, Clique, Tour}
 use Rattle.lemma_log.specs.declared.event.Event.{Event}
 use Rattle.lemma_log.specs.declared.event.Event.TheVariants as event
 use Rattle.network.specs.declared.verdict.Verdict.{Verdict}
 use Rattle.network.specs.declared.verdict.Verdict.TheVariants as verdict
-use Rattle.lemma_log.specs.declared.writable.TheConstants.{MAX_ARCS}
+use Rattle.lemma_log.specs.declared.writable.TheConstants.{MAX_ARCS, MAX_NUMBERS}
 use Rattle.lemma_log.specs.Numbers.{number_text, signed_text}
 
 -- what a log begins with
@@ -46,11 +47,22 @@ abbrev pub clique_kind : Bool → ℕ
 clique_kind false = 5
 clique_kind true = 6
 
+-- an activity, where its interval begins, and how long that is
+abbrev pub interval_text : Interval → List ℕ
+interval_text interval = number_text interval.activity ++ signed_text interval.at ++ number_text interval.length
+
+-- what says whether a tour shows an arc
+abbrev pub flag : Bool → ℕ
+flag false = 0
+flag true = 1
+
 -- an overload that shows an arc, or not
 abbrev pub overload_text : Bool → WindowOverload → List ℕ
 overload_text shows (Load resource from to) = load_text shows resource from (to -ℤ from)
 overload_text shows (Clique from to members) =
     number_text (8 * length members + clique_kind shows) ++ window_text from (to -ℤ from) ++ flat_map number_text members
+overload_text shows (Tour from to intervals) =
+    number_text (8 * length intervals + 7) ++ window_text from (to -ℤ from) ++ number_text (flag shows) ++ flat_map interval_text intervals
 
 abbrev pub line_text : Line → List ℕ
 line_text (Use slot) = number_text (8 * slot)
@@ -79,7 +91,7 @@ event_text e = number_text (length (body_text e)) ++ body_text e
 
 -- ---- what is read back
 
--- a slot, an activity, a resource or a count within the limits
+-- a slot, an activity, a resource, a length or a count within the limits
 abbrev pub IsIndex : ℕ → Type 0
 IsIndex n = n < 2 ^ 60
 
@@ -92,10 +104,29 @@ pub record IsWritableArc (e : Lag) : Type 0 where
   pub to : IsIndex e.to
   pub weight : IsAmount e.weight
 
+pub record IsWritableInterval (interval : Interval) : Type 0 where
+  pub activity : IsIndex interval.activity
+  pub at : IsAmount interval.at
+  pub size : IsIndex interval.length
+
 abbrev pub IsWritableOverload : WindowOverload → Type 0
 IsWritableOverload (Load resource from to) = IsIndex resource × IsAmount from × IsAmount to
 IsWritableOverload (Clique from to members) =
     IsIndex (length members) × IsAmount from × IsAmount to × AllByRecursion IsIndex members
+IsWritableOverload (Tour from to intervals) =
+    IsIndex (length intervals) × IsAmount from × IsAmount to × AllByRecursion IsWritableInterval intervals
+
+-- of how many members or intervals an overload is
+abbrev pub spread : WindowOverload → ℕ
+spread (Load resource from to) = 0
+spread (Clique from to members) = length members
+spread (Tour from to intervals) = length intervals
+
+-- how many numbers a line has at most
+abbrev pub line_numbers : Line → ℕ
+line_numbers (Use slot) = 2
+line_numbers (Force pair) = 2
+line_numbers (Push arc over) = 3 * spread over + 7
 
 abbrev pub IsWritableLine : Line → Type 0
 IsWritableLine (Use slot) = IsIndex slot
@@ -111,11 +142,12 @@ IsWritableClaim verdict.NoSchedule = Unit {0}
 abbrev pub IsWritableBody : Event → Type 0
 IsWritableBody (event.Lemma slot arcs lines) =
     IsIndex slot × (length arcs ≤ MAX_ARCS) × AllByRecursion IsWritableArc arcs × AllByRecursion IsWritableLine lines
+    × (sum_by line_numbers lines ≤ MAX_NUMBERS)
 IsWritableBody (event.Drop slot) = IsIndex slot
 IsWritableBody (event.Schedule starts) = IsIndex (length starts) × AllByRecursion IsAmount starts
 IsWritableBody (event.Claim c) = IsWritableClaim c
 
--- an event all of whose numbers are within the limits, the number of its bytes and that of a lemma's arcs too
+-- an event all of whose numbers are within the limits, the number of its bytes and those of a lemma's arcs and lines too
 pub record IsWritable (e : Event) : Type 0 where
   pub size : length (body_text e) < 2 ^ 63
   pub body : IsWritableBody e

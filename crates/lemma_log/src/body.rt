@@ -10,7 +10,7 @@ use crate::line::lines;
 use crate::lists::{arcs, starts};
 use crate::number::number;
 use crate::signed::signed;
-use crate::writable::MAX_ARCS;
+use crate::writable::{MAX_ARCS, MAX_BYTES};
 use lemma_proof::Lags;
 use network::Verdict;
 use std::alloc::Global;
@@ -99,8 +99,8 @@ fn event_of(alloc: Global, kind: usize, at: usize, bytes: &[u8]) -> Result<Event
     }
 }
 
-/// Whether these bytes of an event, without the number of them, are those of a lemma that has more arcs than it may have.
-/// Neither these nor its lines are read for that.
+/// Whether these bytes of an event, without the number of them, are those of a lemma, and more than it may have, or say
+/// that it has more arcs than it may have. Neither these nor its lines are read for that.
 #[tactic(auto, unfolding(crate::specs::Reading::is_long))]
 pub(crate) fn is_long(bytes: &[u8]) -> bool
     ensures { result ≡ is_long bytes.now }
@@ -110,6 +110,9 @@ pub(crate) fn is_long(bytes: &[u8]) -> bool
     };
     if first % 4 != 0 {
         return false;
+    }
+    if MAX_BYTES < bytes.len() {
+        return true;
     }
     match number(rest) {
         Ok((count, _)) => MAX_ARCS < count,

@@ -12,7 +12,7 @@ pub enum DecodeFault {
     Short,
     /// They begin with no event, whatever follows them.
     Form,
-    /// They begin with a lemma of more arcs than it may have, whatever follows them.
+    /// They begin with a lemma of more arcs or bytes than it may have, whatever follows them.
     Long,
     /// Memory ran out.
     Memory,

@@ -4,13 +4,13 @@ ghost use Rattle.std.specs.Prelude.{◌≡◌, ◌≢◌, ◌≤◌, ◌<◌, �
 ghost use Rattle.std.specs.List.{flat_map};
 ghost use Rattle.lemma_log.specs.declared.fault.DecodeFault.TheVariants.{Memory};
 ghost use Rattle.lemma_log.specs.Text.{line_text};
-ghost use Rattle.lemma_log.specs.Reading.{force_of, pushed, push_of, line_of, line_in, lines_in};
+ghost use Rattle.lemma_log.specs.Reading.{force_of, pushed, push_of, flagged, tour_of, line_of, line_in, lines_in};
 
 use crate::arc::{arc, put_arc};
 use crate::event::Lines;
 use crate::fault::DecodeFault;
 use crate::number::{number, put_number};
-use crate::overload::{overload_of, put_overload};
+use crate::overload::{flagged_tour, overload_of, put_overload};
 use lemma_proof::{Line, WindowOverload};
 use network::{Lag, Pair};
 use std::alloc::{AllocError, Global};
@@ -94,6 +94,29 @@ fn push_of(
     pushed(kind, over, rest)
 }
 
+/// The line of a tour, with the arc that bytes begin with where the flag says that it shows one, and what follows it.
+fn flagged(flag: usize, tour: WindowOverload, bytes: &[u8]) -> Result<(Line, &[u8]), DecodeFault>
+    ensures found { IfOk result (λ r. flagged flag tour bytes.now ≡ Some (record { value = r.0; left = r.1.now })) }
+    ensures shorter { IfOk result (λ r. length r.1.now ≤ length bytes.now) }
+    ensures fault { OnErr result (flagged flag tour bytes.now ≡ None) }
+{
+    match flag {
+        0 => pushed(5, tour, bytes),
+        1 => pushed(6, tour, bytes),
+        _ => Err(DecodeFault::Form),
+    }
+}
+
+/// The line of a tour of so many intervals, and what follows it.
+fn tour_of(alloc: Global, count: usize, bytes: &[u8]) -> Result<(Line, &[u8]), DecodeFault>
+    ensures found { IfOk result (λ r. tour_of count bytes.now ≡ Some (record { value = r.0; left = r.1.now })) }
+    ensures shorter { IfOk result (λ r. length r.1.now < length bytes.now) }
+    ensures fault { IfErr result (λ fault. fault ≢ Memory → tour_of count bytes.now ≡ None) }
+{
+    let (flag, tour, rest) = flagged_tour(alloc, count, bytes)?;
+    flagged(flag, tour, rest)
+}
+
 /// The line of a kind, and of the number that has it, and what follows it.
 fn line_of(
     alloc: Global,
@@ -108,6 +131,7 @@ fn line_of(
     match kind {
         0 => Ok((Line::Use(at), bytes)),
         1 => force_of(at, bytes),
+        7 => tour_of(alloc, at, bytes),
         _ => push_of(alloc, kind, at, bytes),
     }
 }

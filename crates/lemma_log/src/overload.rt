@@ -2,12 +2,13 @@
 
 ghost use Rattle.std.specs.Prelude.{◌≡◌, ◌≢◌, ◌<◌, ◌++◌, ◌+ℤ◌, ◌-ℤ◌, length, Some, None, IfOk, OnOk, OnErr, IfErr};
 ghost use Rattle.lemma_log.specs.declared.fault.DecodeFault.TheVariants.{Memory};
-ghost use Rattle.lemma_log.specs.Text.{window_text, load_text, clique_kind, overload_text};
-ghost use Rattle.lemma_log.specs.Reading.{IsAddend, load_in, short_load_in, clique_in, overload_of};
+ghost use Rattle.lemma_log.specs.Text.{window_text, load_text, clique_kind, flag, overload_text};
+ghost use Rattle.lemma_log.specs.Reading.{IsAddend, load_in, short_load_in, clique_in, flagged_tour_in, overload_of};
 
 use crate::fault::DecodeFault;
+use crate::intervals::{intervals, put_intervals};
 use crate::members::{members, put_members};
-use crate::number::put_number;
+use crate::number::{number, put_number};
 use crate::signed::{put_signed, signed};
 use lemma_proof::WindowOverload;
 use std::alloc::{AllocError, Global};
@@ -50,6 +51,13 @@ fn clique_kind(shows: bool) -> u128
     if shows { 6 } else { 5 }
 }
 
+/// What says whether a tour shows an arc.
+fn flag(shows: bool) -> u128
+    ensures { result ≡ flag shows }
+{
+    if shows { 1 } else { 0 }
+}
+
 /// Writes an overload, one that shows an arc or not.
 pub(crate) fn put_overload(
     bytes: &mut Vec<u8>,
@@ -69,6 +77,18 @@ pub(crate) fn put_overload(
             put_number(bytes, 8 * members.len() as u128 + clique_kind(shows))?;
             put_window(bytes, *from, size)?;
             put_members(bytes, members)
+        }
+        WindowOverload::Tour {
+            from,
+            to,
+            intervals,
+        } => {
+            let intervals = intervals.as_slice();
+            let size = *to as i128 - *from as i128;
+            put_number(bytes, 8 * intervals.len() as u128 + 7)?;
+            put_window(bytes, *from, size)?;
+            put_number(bytes, flag(shows))?;
+            put_intervals(bytes, intervals)
         }
     }
 }
@@ -128,6 +148,28 @@ fn clique(alloc: Global, count: usize, bytes: &[u8]) -> Result<(WindowOverload, 
         members,
     };
     Ok((over, rest))
+}
+
+/// The tour of so many intervals whose window, flag and intervals bytes begin with, after the flag, and what follows it.
+pub(crate) fn flagged_tour(
+    alloc: Global,
+    count: usize,
+    bytes: &[u8],
+) -> Result<(usize, WindowOverload, &[u8]), DecodeFault>
+    ensures found { IfOk result (λ r. flagged_tour_in count bytes.now ≡ Some (record { value = record { flag = r.0; tour = r.1 }; left = r.2.now })) }
+    ensures shorter { IfOk result (λ r. length r.2.now < length bytes.now) }
+    ensures fault { IfErr result (λ fault. fault ≢ Memory → flagged_tour_in count bytes.now ≡ None) }
+{
+    let (from, rest) = signed(bytes)?;
+    let (size, rest) = signed(rest)?;
+    let (flag, rest) = number(rest)?;
+    let (intervals, rest) = intervals(alloc, count, rest)?;
+    let tour = WindowOverload::Tour {
+        from,
+        to: end_of(from, size),
+        intervals,
+    };
+    Ok((flag, tour, rest))
 }
 
 /// The overload of a kind of line, and of the number that has it, and what follows it.

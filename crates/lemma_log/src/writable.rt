@@ -1,11 +1,12 @@
-//! Which events are read back once they are written: those whose numbers are within the limits, and lemmas of few arcs.
+//! Which events are read back once they are written: those whose numbers are within the limits, and lemmas of few arcs
+//! and lines.
 
-ghost use Rattle.std.specs.Prelude.{◌≡◌, ◌↔◌, IsTrue};
-ghost use Rattle.std.specs.List.{AllByRecursion};
-ghost use Rattle.lemma_log.specs.Text.{IsAmount, IsIndex, IsWritableArc, IsWritableBody, IsWritableClaim, IsWritableLine, IsWritableOverload};
+ghost use Rattle.std.specs.Prelude.{◌≡◌, ◌↔◌, ◌≤◌, ◌<◌, ◌^◌, IsTrue};
+ghost use Rattle.std.specs.List.{AllByRecursion, sum_by};
+ghost use Rattle.lemma_log.specs.Text.{IsAmount, IsIndex, IsWritableArc, IsWritableBody, IsWritableClaim, IsWritableInterval, IsWritableLine, IsWritableOverload, line_numbers, spread};
 
 use crate::event::Event;
-use lemma_proof::{Line, WindowOverload};
+use lemma_proof::{Interval, Line, WindowOverload};
 use network::{Lag, Verdict};
 
 /// What a slot, an activity, a resource or a count is below.
@@ -13,6 +14,13 @@ const INDEX_LIMIT: usize = 1_152_921_504_606_846_976;
 
 /// The most arcs of a lemma.
 pub const MAX_ARCS: usize = 1_024;
+
+/// The most bytes of a lemma's event, without the number of them.
+pub const MAX_BYTES: usize = 1_048_576;
+
+/// The most numbers in the lines of a lemma that is written. A number has 19 bytes at most, so all of its event and as many
+/// arcs as it may have are within the limit.
+const MAX_NUMBERS: u128 = 50_000;
 
 /// The greatest weight, start, makespan, bound or end of a window. The least is its negative.
 const MAX_AMOUNT: i64 = 1_152_921_504_606_846_976;
@@ -62,6 +70,25 @@ fn are_indices(members: &[usize]) -> bool
     true
 }
 
+/// Whether the numbers of an interval are within the limits.
+fn is_writable_interval(interval: Interval) -> bool
+    ensures { IsTrue result ↔ IsWritableInterval interval }
+{
+    is_index(interval.activity) && is_amount(interval.at) && is_index(interval.length as usize)
+}
+
+/// Whether those of each of these intervals are.
+fn are_writable_intervals(intervals: &[Interval]) -> bool
+    ensures { IsTrue result ↔ AllByRecursion IsWritableInterval intervals.now }
+{
+    for interval in intervals {
+        if !is_writable_interval(*interval) {
+            return false;
+        }
+    }
+    true
+}
+
 /// Whether the numbers of an overload are within the limits.
 fn is_writable_overload(over: &WindowOverload) -> bool
     ensures { IsTrue result ↔ IsWritableOverload over.now }
@@ -74,6 +101,29 @@ fn is_writable_overload(over: &WindowOverload) -> bool
             let members = members.as_slice();
             is_index(members.len()) && is_amount(*from) && is_amount(*to) && are_indices(members)
         }
+        WindowOverload::Tour {
+            from,
+            to,
+            intervals,
+        } => {
+            let intervals = intervals.as_slice();
+            is_index(intervals.len())
+                && is_amount(*from)
+                && is_amount(*to)
+                && are_writable_intervals(intervals)
+        }
+    }
+}
+
+/// Of how many members or intervals an overload is.
+fn spread(over: &WindowOverload) -> u128
+    ensures value { result ≡ spread over.now }
+    ensures small { result < 2 ^ 64 }
+{
+    match over {
+        WindowOverload::Load { .. } => 0,
+        WindowOverload::Clique { members, .. } => members.as_slice().len() as u128,
+        WindowOverload::Tour { intervals, .. } => intervals.as_slice().len() as u128,
     }
 }
 
@@ -110,6 +160,31 @@ fn are_writable_lines(lines: &[Line]) -> bool
     true
 }
 
+/// How many numbers a line has at most.
+fn line_numbers(line: &Line) -> u128
+    ensures { result ≡ line_numbers line.now }
+{
+    match line {
+        Line::Push { over, .. } => 3 * spread(over) + 7,
+        _ => 2,
+    }
+}
+
+/// Whether lines have no more numbers than those of a lemma may have.
+fn are_few_numbers(lines: &[Line]) -> bool
+    ensures { IsTrue result ↔ (sum_by line_numbers lines.now ≤ MAX_NUMBERS) }
+{
+    let mut left = MAX_NUMBERS;
+    for line in lines {
+        let numbers = line_numbers(line);
+        if left < numbers {
+            return false;
+        }
+        left -= numbers;
+    }
+    true
+}
+
 /// Whether these are starts within the limits.
 fn are_amounts(starts: &[i64]) -> bool
     ensures { IsTrue result ↔ AllByRecursion IsAmount starts.now }
@@ -133,8 +208,8 @@ fn is_writable_claim(claim: &Verdict) -> bool
     }
 }
 
-/// Whether all numbers of an event are within the limits, and a lemma has no more arcs than it may have. What [`put_event`](crate::put_event) writes of it is then read
-/// back: it writes no event of 2^63 bytes or more.
+/// Whether all numbers of an event are within the limits, and a lemma has no more arcs and lines than it may have. What
+/// [`put_event`](crate::put_event) writes of it is then read back: it writes no event of 2^63 bytes or more.
 pub fn is_writable(event: &Event) -> bool
     ensures { IsTrue result ↔ IsWritableBody event.now }
 {
@@ -145,6 +220,7 @@ pub fn is_writable(event: &Event) -> bool
                 && arcs.len() <= MAX_ARCS
                 && are_writable_arcs(arcs)
                 && are_writable_lines(lines.as_slice())
+                && are_few_numbers(lines.as_slice())
         }
         Event::Drop { slot } => is_index(*slot),
         Event::Schedule { starts } => {

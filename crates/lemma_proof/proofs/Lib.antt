@@ -1,3 +1,5 @@
+pub mod Slotted
+pub mod Listed
 pub mod Truth
 pub mod Staying
 pub mod OneLeft
@@ -20,5 +22,8 @@ pub mod Existing
 pub mod Loops
 pub mod Weighing
 pub mod KnownWalks
+pub mod Packing
 pub mod Windows
+pub mod Touring
+pub mod TourLoops
 pub mod KnownBlocks

@@ -1,5 +1,5 @@
 -- What a loop over a list that stops at the first element without a property knows.
-use Rattle.std.proofs.Common.{◌≡◌, refl, ◌+◌, ◌<◌, ◌≤◌, ◌⊎◌, inr, ⊎_elim, arith, Bool, ℕ, List, length, get_or, take, true, false, IsTrue, ◌↔◌, slice_index}
+use Rattle.std.proofs.Common.{◌≡◌, refl, ◌+◌, ◌<◌, ◌≤◌, ◌⊎◌, inr, ⊎_elim, arith, Bool, ℕ, List, length, get_or, take, true, false, IsTrue, ◌↔◌}
 use Rattle.std.proofs.Common.{sym, ◌∙◌}
 use Rattle.std.specs.List.{All, AllPairs}
 use Rattle.lemma_proof.specs.Reasons.{Tells}
@@ -10,6 +10,10 @@ use Rattle.std.proofs.lemmas.Bool.{cases_lt, false≢true}
 -- the answer is no, and where that is exact, the fact does not hold
 pub tells_false : {e b : Bool} {P : Type 0} → Tells e b P → b ≡ false → e ≡ true → ¬ P
 tells_false {b = b} told is exact h = let yes : IsTrue b = told.only exact h in absurd (false≢true (sym is ∙ yes))
+
+-- a plain no
+pub never : {P : Type 0} → ¬ P → IsTrue false ↔ P
+never unmet = (λ t. absurd (false≢true t), λ h. absurd (unmet h))
 
 -- an exact answer
 pub tells_both : {b : Bool} {P : Type 0} → Tells true b P → IsTrue b ↔ P
@@ -22,10 +26,10 @@ pub granted : {e : Bool} (P : Type 0) → P → Tells e true P
 granted P h = record { shown = λ _. h; only = λ _ _. refl }
 
 -- of three the last decides, where neither of the others holds
-pub third_decides : {A B C : Type 0} {e b : Bool} → ¬ A → (e ≡ true → ¬ B) → Tells e b C → Tells e b (A ⊎ (B ⊎ C))
+pub third_decides : {A B C : Type 0} {e b : Bool} → (e ≡ true → ¬ A) → (e ≡ true → ¬ B) → Tells e b C → Tells e b (A ⊎ (B ⊎ C))
 third_decides first second third = record {
   shown = λ yes. inr (inr (third.shown yes));
-  only = λ exact one. ⊎_elim (λ a. absurd (first a)) (λ rest. ⊎_elim (λ b. absurd (second exact b)) (λ c. third.only exact c) rest) one;
+  only = λ exact one. ⊎_elim (λ a. absurd (first exact a)) (λ rest. ⊎_elim (λ b. absurd (second exact b)) (λ c. third.only exact c) rest) one;
 }
 
 -- one of them hasn't it
@@ -40,32 +44,34 @@ none_fails P xs i past so_far = let all : All P xs = rw (take_all i xs past) at 
 -- ---- each two of them
 
 -- the relation holds of each two of the first n
-abbrev pub BeforeAre : (ℕ → ℕ → Type 0) → List ℕ → ℕ → Type 0
-BeforeAre R xs n = (i j : ℕ) → i < j → j < n → R (slice_index xs i) (slice_index xs j)
+abbrev pub BeforeAre : {X : Type 0} → (X → X → Type 0) → List X → ℕ → Type 0
+BeforeAre {X} R xs n = (i j : ℕ) (d : X) → i < j → j < n → R (get_or xs i d) (get_or xs j d)
 
-pub pairs_more : (R : ℕ → ℕ → Type 0) (xs : List ℕ) (n : ℕ) → n < length xs → BeforeAre R xs n
-    → All (λ x. R x (slice_index xs n)) (take n xs) → BeforeAre R xs (n + 1)
-pairs_more R xs n lt before here i j less low =
+pub pairs_more : {X : Type 0} (R : X → X → Type 0) (xs : List X) (n : ℕ) (e : X) → n < length xs → BeforeAre R xs n
+    → All (λ x. R x (get_or xs n e)) (take n xs) → BeforeAre R xs (n + 1)
+pairs_more R xs n e lt before here i j d less low =
     ⊎_elim
-    (λ (early : j < n). before i j less early)
+    (λ (early : j < n). before i j d less early)
     (λ (late : n ≤ j).
     let is : j ≡ n = omega arith in
     let inside : i < n = omega arith in
     let long : length (take n xs) ≡ n = length-take-le n xs (omega arith) in
-    let at : R (get_or (take n xs) i 0) (slice_index xs n) = here i 0 (rw long inside) in
-    let read : R (slice_index xs i) (slice_index xs n) = rw (get_or-take n xs i 0 inside) at at in
-    rw is read)
+    let at : R (get_or (take n xs) i d) (get_or xs n e) = here i d (rw long inside) in
+    let read : R (get_or xs i d) (get_or xs n e) = rw (get_or-take n xs i d inside) at at in
+    rw (is, get_or_default xs n d e lt) read)
     (cases_lt j n)
 
-pub pairs_fail : {e : Bool} (R : ℕ → ℕ → Type 0) (xs : List ℕ) (n : ℕ) → n < length xs
-    → (e ≡ true → ¬ All (λ x. R x (slice_index xs n)) (take n xs)) → Tells e false (AllPairs R xs)
-pairs_fail R xs n lt never =
+pub pairs_fail : {X : Type 0} {e : Bool} (R : X → X → Type 0) (xs : List X) (n : ℕ) (d : X) → n < length xs
+    → (e ≡ true → ¬ All (λ x. R x (get_or xs n d)) (take n xs)) → Tells e false (AllPairs R xs)
+pairs_fail R xs n d lt never =
     let long : length (take n xs) ≡ n = length-take-le n xs (omega arith) in
-    refused (AllPairs R xs) (λ exact all. never exact (All-from_get_or (λ x. R x (slice_index xs n)) (take n xs) 0 (λ i low.
+    refused (AllPairs R xs) (λ exact all. never exact (All-from_get_or (λ x. R x (get_or xs n d)) (take n xs) d (λ i low.
     let inside : i < n = rw long at low in
-    rw (get_or-take n xs i 0 inside) (all i n 0 inside lt))))
+    rw (get_or-take n xs i d inside) (all i n d inside lt))))
 
-pub pairs_hold : {e : Bool} (R : ℕ → ℕ → Type 0) (xs : List ℕ) (n : ℕ) → length xs ≤ n → BeforeAre R xs n → Tells e true (AllPairs R xs)
-pairs_hold R xs n past before = granted (AllPairs R xs)
-    (λ i j d less low. rw (get_or_default xs i d 0 (omega arith), get_or_default xs j d 0 low)
-    (before i j less (omega arith)))
+pub pairs_hold : {X : Type 0} {e : Bool} (R : X → X → Type 0) (xs : List X) (n : ℕ) → length xs ≤ n → BeforeAre R xs n → Tells e true (AllPairs R xs)
+pairs_hold R xs n past before = granted (AllPairs R xs) (λ i j d less low. before i j d less (omega arith))
+
+-- a plain answer
+pub plain : {e b : Bool} {P : Type 0} → IsTrue b ↔ P → Tells e b P
+plain told = record { shown = told.0; only = λ _ h. told.1 h }

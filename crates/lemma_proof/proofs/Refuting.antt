@@ -55,16 +55,16 @@ one_used lemmas arcs slot e f u v =
     inr (rw u.reverse (cycle_reverse arcs u.left (v.is_left.others u.is_left.place u.left at other))))
     (cases_eq u.is_left.place v.is_left.place)
 
-one_pushed : (p : Problem) (arcs : List Lag) (arc : Option Lag) (over : WindowOverload) (e f : Lag)
-    → IsPushed p arcs arc over e → IsPushed p arcs arc over f → e ≡ f
-one_pushed p arcs None over e f x y = x.1 ∙ sym y.1
-one_pushed p arcs (Some g) over e f x y = x.2 ∙ sym y.2
+one_pushed : (p : Problem) (lemmas : Slots) (arcs : List Lag) (arc : Option Lag) (over : WindowOverload) (e f : Lag)
+    → IsPushed p lemmas arcs arc over e → IsPushed p lemmas arcs arc over f → e ≡ f
+one_pushed p lemmas arcs None over e f x y = x.1 ∙ sym y.1
+one_pushed p lemmas arcs (Some g) over e f x y = x.2 ∙ sym y.2
 
 one_shown : (p : Problem) (lemmas : Slots) (arcs : List Lag) (line : Line) (e f : Lag) → Shows p lemmas arcs line e
     → Shows p lemmas arcs line f → (e ≡ f) ⊎ HasPositiveCycle (arcs ++ e ∷ [])
 one_shown p lemmas arcs (Force pair) e f x y = inl (x.1 ∙ sym y.1)
 one_shown p lemmas arcs (Use slot) e f x y = one_used lemmas arcs slot e f x y
-one_shown p lemmas arcs (Push arc over) e f x y = inl (one_pushed p arcs arc over e f x y)
+one_shown p lemmas arcs (Push arc over) e f x y = inl (one_pushed p lemmas arcs arc over e f x y)
 
 -- ---- Beside the first lines.
 

@@ -1,6 +1,6 @@
 -- What lines refute, they refute beside more arcs, and beside other lemmas that have those which they use.
 use Rattle.std.proofs.Common.{ℕ, get_or, List, [], arith, ℤ, pos, ◌≤ℤ◌, ◌<ℤ◌, ◌≡◌, subst, ⊎_elim, ◌⊎◌, inl, inr, ◌∷◌, ◌++◌, Option, None, Some}
-use Rattle.std.specs.List.{Contains}
+use Rattle.std.specs.List.{All, AllPairs, Contains}
 use Rattle.std.proofs.lemmas.Int.{ints}
 use Rattle.std.proofs.lemmas.List.Elements.{All-contains, All-weaker, Contains-append_cases, Contains-append_left, Contains-append_right}
 use Rattle.network.specs.declared.parts.Lag.{Lag}
@@ -9,11 +9,14 @@ use Rattle.network.specs.Walk.{IsWalk, weight, HasPositiveCycle}
 use Rattle.network.proofs.Walks.{IsWalk-append, weight-append}
 use Rattle.lemma_proof.proofs.Implying.{implied_arc, implied_part}
 use Rattle.lemma_proof.specs.Reasons.{Implies, IsClique, IsLoad, MustRun, RunApart, RunsWithin, StartsAfterEnd, reverse_of}
+use Rattle.lemma_proof.specs.declared.line.Interval.{Interval}
 use Rattle.lemma_proof.specs.declared.line.Line.{Line}
 use Rattle.lemma_proof.specs.declared.line.Line.TheVariants.{Force, Use, Push}
 use Rattle.lemma_proof.specs.declared.line.WindowOverload.{WindowOverload}
-use Rattle.lemma_proof.specs.declared.line.WindowOverload.TheVariants.{Load, Clique}
-use Rattle.lemma_proof.specs.Lines.{AreRefuted, HasUsed, HaveUsed, IsIn, IsOverload, IsPushed, IsUse, Shows, Slots, StayRefuted}
+use Rattle.lemma_proof.specs.declared.line.WindowOverload.TheVariants.{Load, Clique, Tour}
+use Rattle.lemma_proof.specs.Slots.{HaveDelays, IsSmall}
+use Rattle.lemma_proof.specs.Tours.{BeginsAfterEnd, IsInterval, IsTour, LieApart, LiesWithin}
+use Rattle.lemma_proof.specs.Lines.{AreRefuted, HasDelays, HasUsed, HaveUsed, KeepsDelays, IsIn, IsOverload, IsPushed, IsUse, Shows, Slots, StayRefuted}
 
 -- what some arcs imply, more arcs do, too
 abbrev pub Gives : List Lag → List Lag → Type 0
@@ -53,11 +56,20 @@ gives_more arcs more e gives f c =
 
 -- ---- lemmas that stay where they are
 
+has_delays : (others lemmas : Slots) → ((slot : ℕ) (lemma : List Lag) → IsIn lemmas slot lemma → IsIn others slot lemma)
+    → (over : WindowOverload) → HasDelays others lemmas over
+has_delays others lemmas have (Load resource from to) = tt
+has_delays others lemmas have (Clique from to members) = tt
+has_delays others lemmas have (Tour from to intervals) = λ small i j d lt inside known. record {
+  slot = known.slot;
+  says = record { lemma = known.says.lemma; found = have known.slot known.says.lemma known.says.found; says = known.says.says };
+}
+
 has_used : (others lemmas : Slots) → ((slot : ℕ) (lemma : List Lag) → IsIn lemmas slot lemma → IsIn others slot lemma)
     → (line : Line) → HasUsed others lemmas line
 has_used others lemmas have (Force pair) = tt
 has_used others lemmas have (Use slot) = have slot
-has_used others lemmas have (Push arc over) = tt
+has_used others lemmas have (Push arc over) = has_delays others lemmas have over
 
 -- where all lemmas are there, so are those that lines use
 pub have_used : (others lemmas : Slots) →
@@ -111,19 +123,53 @@ clique_given p from to members arcs more gives c = record {
   over = c.over;
 }
 
-overload_given : (p : Problem) (over : WindowOverload) (arcs more : List Lag) → Gives more arcs → IsOverload p arcs over → IsOverload p more over
-overload_given p (Load resource from to) arcs more gives over = (over.0, load_given p resource from to arcs more gives over.1)
-overload_given p (Clique from to members) arcs more gives over = (over.0, clique_given p from to members arcs more gives over.1)
+interval_apart : (lemmas others : Slots) (arcs more : List Lag) (m k : Interval) → KeepsDelays others lemmas m k
+    → Gives more arcs → LieApart lemmas arcs m k → LieApart others more m k
+interval_apart lemmas others arcs more m k kept gives apart =
+    ⊎_elim
+    (λ (first : BeginsAfterEnd arcs m k). inl (implied_given arcs more _ gives first))
+    (λ (rest : BeginsAfterEnd arcs k m ⊎ HaveDelays lemmas m k). inr (⊎_elim
+    (λ (second : BeginsAfterEnd arcs k m). inl (implied_given arcs more _ gives second))
+    (λ (known : HaveDelays lemmas m k). inr (kept known))
+    rest))
+    apart
 
-pushed_given : (p : Problem) (arc : Option Lag) (over : WindowOverload) (arcs more : List Lag) (e : Lag)
-    → Gives more arcs → IsPushed p arcs arc over e → IsPushed p more arc over e
-pushed_given p None over arcs more e gives pushed = (overload_given p over arcs more gives pushed.0, pushed.1)
-pushed_given p (Some f) over arcs more e gives pushed = (
+tour_given : (p : Problem) (lemmas others : Slots) (from to : ℤ) (intervals : List Interval) (arcs more : List Lag)
+    → (All IsSmall intervals → AllPairs (KeepsDelays others lemmas) intervals) → Gives more arcs
+    → IsTour p lemmas arcs from to intervals → IsTour p others more from to intervals
+tour_given p lemmas others from to intervals arcs more have gives t =
+    let small : All IsSmall intervals = All-weaker (IsInterval p) IsSmall (λ m is. is.small) intervals t.are_intervals in
+    record {
+      some = t.some;
+      rising = t.rising;
+      are_intervals = t.are_intervals;
+      inside = All-weaker (LiesWithin arcs from to) (LiesWithin more from to)
+          (λ m r. record { late = implied_given arcs more _ gives r.late; early = implied_given arcs more _ gives r.early })
+          intervals t.inside;
+      apart = λ i j d lt inside. interval_apart lemmas others arcs more (get_or intervals i d) (get_or intervals j d)
+          (have small i j d lt inside) gives (t.apart i j d lt inside);
+      over = t.over;
+    }
+
+overload_given : (p : Problem) (lemmas others : Slots) (over : WindowOverload) (arcs more : List Lag)
+    → HasDelays others lemmas over → Gives more arcs → IsOverload p lemmas arcs over → IsOverload p others more over
+overload_given p lemmas others (Load resource from to) arcs more have gives over = (over.0, load_given p resource from to arcs more gives over.1)
+overload_given p lemmas others (Clique from to members) arcs more have gives over = (over.0, clique_given p from to members arcs more gives over.1)
+overload_given p lemmas others (Tour from to intervals) arcs more have gives over = (
+  over.0,
+  tour_given p lemmas others from to intervals arcs more have gives over.1,
+)
+
+pushed_given : (p : Problem) (lemmas others : Slots) (arc : Option Lag) (over : WindowOverload) (arcs more : List Lag)
+    (e : Lag) → HasDelays others lemmas over → Gives more arcs → IsPushed p lemmas arcs arc over e
+    → IsPushed p others more arc over e
+pushed_given p lemmas others None over arcs more e have gives pushed = (overload_given p lemmas others over arcs more have gives pushed.0, pushed.1)
+pushed_given p lemmas others (Some f) over arcs more e have gives pushed = (
   pushed.0,
   ⊎_elim
       (λ (implied : Implies arcs f). inl (implied_given arcs more f gives implied))
-      (λ (ends : IsOverload p (arcs ++ reverse_of f ∷ []) over).
-      inr (overload_given p over (arcs ++ reverse_of f ∷ []) (more ++ reverse_of f ∷ [])
+      (λ (ends : IsOverload p lemmas (arcs ++ reverse_of f ∷ []) over).
+      inr (overload_given p lemmas others over (arcs ++ reverse_of f ∷ []) (more ++ reverse_of f ∷ []) have
       (gives_more arcs more (reverse_of f) gives) ends))
       pushed.1,
   pushed.2,
@@ -146,7 +192,7 @@ shown_given p lemmas others arcs more (Force pair) e has gives shown = (
   shown.1,
 )
 shown_given p lemmas others arcs more (Use slot) e has gives shown = use_given lemmas others slot arcs more e has gives shown
-shown_given p lemmas others arcs more (Push arc over) e has gives shown = pushed_given p arc over arcs more e gives shown
+shown_given p lemmas others arcs more (Push arc over) e has gives shown = pushed_given p lemmas others arc over arcs more e has gives shown
 
 pub refuted_given : (p : Problem) (lemmas others : Slots) (arcs more : List Lag) (lines : List Line)
     → HaveUsed others lemmas lines → Gives more arcs → AreRefuted p lemmas arcs lines → AreRefuted p others more lines

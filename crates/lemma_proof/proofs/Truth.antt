@@ -17,10 +17,11 @@ use Rattle.forbidden_sets.proofs.Apart.{apart}
 use Rattle.lemma_proof.specs.Reasons.{Implies, reverse_of}
 use Rattle.lemma_proof.proofs.Weighing.{MeetsAll, implied_met}
 use Rattle.lemma_proof.proofs.Windows.{load_refuted, clique_refuted}
+use Rattle.lemma_proof.proofs.Touring.{tour_refuted}
 use Rattle.lemma_proof.specs.declared.line.Line.{Line}
 use Rattle.lemma_proof.specs.declared.line.Line.TheVariants.{Force, Use, Push}
 use Rattle.lemma_proof.specs.declared.line.WindowOverload.{WindowOverload}
-use Rattle.lemma_proof.specs.declared.line.WindowOverload.TheVariants.{Load, Clique}
+use Rattle.lemma_proof.specs.declared.line.WindowOverload.TheVariants.{Load, Clique, Tour}
 use Rattle.lemma_proof.specs.Lines.{AreRefuted, IsForced, IsLeft, IsOverload, IsPushed, IsUse, MeetsNone, NoneMeetsRefuted, Shows, Slots}
 
 cycle_refuted : (arcs : List Lag) (s : List ℤ) → HasPositiveCycle arcs → MeetsAll s arcs → ⊥
@@ -64,21 +65,24 @@ use_met lemmas arcs slot e s used none met =
     (λ (back : Meets s (reverse_of used.left)). rw used.reverse back)
     (either_met s used.left)
 
-overload_refuted : (p : Problem) (arcs : List Lag) (over : WindowOverload) (s : List ℤ) → IsOverload p arcs over → IsFeasible p s → MeetsAll s arcs → ⊥
-overload_refuted p arcs (Load resource from to) s over feasible met = load_refuted p arcs resource from to s over.1 feasible met
-overload_refuted p arcs (Clique from to members) s over feasible met = clique_refuted p arcs from to members s over.1 feasible met
+overload_refuted : (p : Problem) (lemmas : Slots) (arcs : List Lag) (over : WindowOverload) (s : List ℤ)
+    → IsOverload p lemmas arcs over → IsFeasible p s → MeetsNone s lemmas → MeetsAll s arcs → ⊥
+overload_refuted p lemmas arcs (Load resource from to) s over feasible none met = load_refuted p arcs resource from to s over.1 feasible met
+overload_refuted p lemmas arcs (Clique from to members) s over feasible none met = clique_refuted p arcs from to members s over.1 feasible met
+overload_refuted p lemmas arcs (Tour from to intervals) s over feasible none met =
+    tour_refuted p lemmas arcs from to intervals s over.1 feasible none met
 
-pushed_met : (p : Problem) (arcs : List Lag) (arc : Option Lag) (over : WindowOverload) (e : Lag) (s : List ℤ)
-    → IsPushed p arcs arc over e → IsFeasible p s → MeetsAll s arcs → Meets s e
-pushed_met p arcs None over e s pushed feasible met = absurd (overload_refuted p arcs over s pushed.0 feasible met)
-pushed_met p arcs (Some f) over e s pushed feasible met =
+pushed_met : (p : Problem) (lemmas : Slots) (arcs : List Lag) (arc : Option Lag) (over : WindowOverload) (e : Lag)
+    (s : List ℤ) → IsPushed p lemmas arcs arc over e → IsFeasible p s → MeetsNone s lemmas → MeetsAll s arcs → Meets s e
+pushed_met p lemmas arcs None over e s pushed feasible none met = absurd (overload_refuted p lemmas arcs over s pushed.0 feasible none met)
+pushed_met p lemmas arcs (Some f) over e s pushed feasible none met =
     let here : Meets s f = ⊎_elim
     (λ (implied : Implies arcs f). implied_met arcs s met f implied)
-    (λ (ends : IsOverload p (arcs ++ reverse_of f ∷ []) over).
+    (λ (ends : IsOverload p lemmas (arcs ++ reverse_of f ∷ []) over).
     ⊎_elim
     (λ (kept : Meets s f). kept)
     (λ (back : Meets s (reverse_of f)). absurd
-    (overload_refuted p (arcs ++ reverse_of f ∷ []) over s ends feasible
+    (overload_refuted p lemmas (arcs ++ reverse_of f ∷ []) over s ends feasible none
     (meets_more s arcs (reverse_of f) met back)))
     (either_met s f))
     pushed.1 in
@@ -88,7 +92,7 @@ shown_met : (p : Problem) (lemmas : Slots) (arcs : List Lag) (line : Line) (e : 
     → Shows p lemmas arcs line e → IsFeasible p s → MeetsNone s lemmas → MeetsAll s arcs → Meets s e
 shown_met p lemmas arcs (Force pair) e s shown feasible none met = rw shown.1 (forced_met p arcs pair s shown.0 feasible met)
 shown_met p lemmas arcs (Use slot) e s shown feasible none met = use_met lemmas arcs slot e s shown none met
-shown_met p lemmas arcs (Push arc over) e s shown feasible none met = pushed_met p arcs arc over e s shown feasible met
+shown_met p lemmas arcs (Push arc over) e s shown feasible none met = pushed_met p lemmas arcs arc over e s shown feasible none met
 
 refuted_unmet : (p : Problem) (lemmas : Slots) (arcs : List Lag) (lines : List Line) (s : List ℤ)
     → AreRefuted p lemmas arcs lines → IsFeasible p s → MeetsNone s lemmas → MeetsAll s arcs → ⊥

@@ -34,10 +34,10 @@ length-rows_with (Some e) rows = length-rows_over e rows
 
 -- ---- what an entry says
 
-le_test : (x y : ℤ) → IsTrue (le_z x y) → x ≤ℤ y
+pub le_test : (x y : ℤ) → IsTrue (le_z x y) → x ≤ℤ y
 le_test x y h = grind (arith, ints)
 
-test_le : (x y : ℤ) → x ≤ℤ y → IsTrue (le_z x y)
+pub test_le : (x y : ℤ) → x ≤ℤ y → IsTrue (le_z x y)
 test_le x y h = grind (arith, ints)
 
 pub lt_test : (x y : ℤ) → IsTrue (lt_z x y) → x <ℤ y

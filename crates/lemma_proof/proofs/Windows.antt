@@ -3,7 +3,7 @@ use Rattle.std.proofs.Common.{◌≡◌, ℕ, ◌+◌, ◌-◌, ◌*◌, ◌<◌
 use Rattle.std.proofs.Common.{false, [], ◌∷◌, get_or, length, refl, ◌⊎◌, Option, None, Some, ◌<ℤ◌, ◌&&◌, int_le, int_lt, unsigned_abs, map-id}
 use Rattle.std.specs.List.{All, sum_by, AllPairs, range_with_len}
 use Rattle.std.proofs.lemmas.Int.{ints, by_lt_z, clamps}
-use Rattle.std.proofs.lemmas.List.Elements.{All-from_get_or, All-head, All-tail}
+use Rattle.std.proofs.lemmas.List.Elements.{All-from_get_or}
 use Rattle.std.proofs.lemmas.List.FromFn.{get_or-range_with_len, length-range_with_len, sum_by-map-range_with_len_more}
 use Rattle.network.specs.declared.parts.Lag.{Lag}
 use Rattle.network.specs.Problem.{Problem, activity_count, activities, duration, demand, capacity}
@@ -14,19 +14,13 @@ use Rattle.forbidden_sets.proofs.Apart.{runs_when, apart, BeginsFrom}
 use Rattle.lemma_proof.specs.Reasons.{AreBelow, Entries, Implies, MustRun, IsLoad, pair_of, RunsWithin, StartsAfterEnd, RunApart, IsClique, least_part, part_of}
 use Rattle.lemma_proof.specs.Reasons.{load_of}
 use Rattle.lemma_proof.proofs.Implying.{implied_lower}
+use Rattle.lemma_proof.proofs.Packing.{AreApart, IsInside, gap, packed}
 use Rattle.lemma_proof.proofs.Weighing.{MeetsAll, implied_met}
-use Rattle.std.proofs.lemmas.List.Sums.{sum_by-cons}
 use Rattle.forbidden_sets.specs.Incompatible.{AreIncompatible}
 use Rattle.std.specs.Int.{int_max, int_min}
 use Rattle.std.proofs.Math.Nat.{mul-le-mul_right}
 use Rattle.std.proofs.lemmas.Bool.{cases_lt}
 use Rattle.network.specs.Walk.{Rows, entry, weight, IsGreatestWeight, IsMatrixOf}
-
-pub gap : (x y : ℤ) → x ≤ℤ y → (m : ℕ) × (y ≡ x +ℤ pos m)
-gap (pos a) (pos b) h = (b - a, omega (arith, ints))
-gap (pos a) (negsuc b) h = absurd (omega (arith, ints))
-gap (negsuc a) (pos b) h = (b + a + 1, omega (arith, ints))
-gap (negsuc a) (negsuc b) h = (a - b, omega (arith, ints))
 
 -- an activity that runs in m units of the window or more asks for r in each of them
 pub part_in_window : (p : Problem) (s : List ℤ) (from : ℤ) (units i m r : ℕ) → pos m ≤ℤ duration p i → m ≤ units
@@ -90,120 +84,57 @@ load_refuted p arcs k from to s load feasible met =
 
 -- ---- Activities of which no two can run at the same time, all in one window: together they take no longer than it is.
 
-abbrev NotBoth : (ℕ → Bool) → ℕ → ℕ → Type 0
-NotBoth f i j = f i ≡ true → f j ≡ true → ⊥
-
-later_pairs : (R : ℕ → ℕ → Type 0) (x : ℕ) (xs : List ℕ) → AllPairs R (x ∷ xs) → AllPairs R xs
-later_pairs R x xs h i j d lt within = h (suc i) (suc j) d (omega arith) (omega arith)
-
-with_first : (R : ℕ → ℕ → Type 0) (x : ℕ) (xs : List ℕ) → AllPairs R (x ∷ xs) → All (R x) xs
-with_first R x xs h k d l = h 0 (suc k) d (omega arith) (omega arith)
-
-abbrev one_if : Bool → ℕ
-one_if b = cond b 1 0
-
-none_passes : (f : ℕ → Bool) (xs : List ℕ) → All (λ i. f i ≡ true → ⊥) xs → sum_by (λ i. one_if (f i)) xs ≡ 0
-none_passes f [] h = refl
-none_passes f (x ∷ xs) h = omega (
-  arith,
-  sum_by-cons (λ i. one_if (f i)) x xs,
-  none_passes f xs (All-tail (λ i. f i ≡ true → ⊥) x xs h),
-  zero_at (f x) (All-head (λ i. f i ≡ true → ⊥) x xs h),
-)
-  where
-    zero_at : (b : Bool) → (b ≡ true → ⊥) → one_if b ≡ 0
-    zero_at true never = absurd (never refl)
-    zero_at false never = refl
-
--- where no two pass, at most one does
-one_passes : (f : ℕ → Bool) (xs : List ℕ) → AllPairs (NotBoth f) xs → sum_by (λ i. one_if (f i)) xs ≤ 1
-one_passes f [] h = omega arith
-one_passes f (x ∷ xs) h = by_first (f x) refl (one_passes f xs (later_pairs (NotBoth f) x xs h))
-  where
-    by_first : (b : Bool) → f x ≡ b → sum_by (λ i. one_if (f i)) xs ≤ 1 → sum_by (λ i. one_if (f i)) (x ∷ xs) ≤ 1
-    by_first true passes rest =
-        let others = none_passes f xs (λ k d l. with_first (NotBoth f) x xs h k d l passes) in
-        let here : one_if (f x) ≡ 1 = rw passes refl in
-        omega (arith, sum_by-cons (λ i. one_if (f i)) x xs, others, here)
-    by_first false fails rest =
-        let here : one_if (f x) ≡ 0 = rw fails refl in
-        omega (arith, sum_by-cons (λ i. one_if (f i)) x xs, rest, here)
-
-starts_when : (s u e : ℤ) → (int_le s u && int_lt u e) ≡ true → s ≤ℤ u
-starts_when s u e h = grind (arith, ints)
-
-ends_when : (s u e : ℤ) → (int_le s u && int_lt u e) ≡ true → u <ℤ e
-ends_when s u e h = grind (arith, ints)
-
 -- of two in an order, one has ended before the other starts
-in_order : (p : Problem) (arcs : List Lag) (s : List ℤ) (u : ℤ) (i j : ℕ) → MeetsAll s arcs → StartsAfterEnd p arcs i j → NotBoth (is_running p s u) i j
-in_order p arcs s u i j met order runs_i runs_j =
-    let after : (start s i +ℤ duration p i) ≤ℤ start s j = implied_met arcs s met (arc_of i j (duration p i)) order in
-    let begun = starts_when (start s j) u (start s j +ℤ duration p j) runs_j in
-    let going = ends_when (start s i) u (start s i +ℤ duration p i) runs_i in
-    omega (arith, ints)
+in_order : (p : Problem) (arcs : List Lag) (s : List ℤ) (i j : ℕ) → MeetsAll s arcs → StartsAfterEnd p arcs i j → (start s i +ℤ duration p i) ≤ℤ start s j
+in_order p arcs s i j met order = implied_met arcs s met (arc_of i j (duration p i)) order
 
--- rivals don't run in one unit
-rivals_apart : (p : Problem) (s : List ℤ) (u : ℤ) (i j : ℕ) → IsFeasible p s → AreIncompatible p (pair_of i j) → NotBoth (is_running p s u) i j
-rivals_apart p s u i j feasible rivals runs_i runs_j =
-    let late_i = starts_when (start s i) u (start s i +ℤ duration p i) runs_i in
-    let late_j = starts_when (start s j) u (start s j +ℤ duration p j) runs_j in
-    let early_i = ends_when (start s i) u (start s i +ℤ duration p i) runs_i in
-    let early_j = ends_when (start s j) u (start s j +ℤ duration p j) runs_j in
-    apart p s (pair_of i j) feasible rivals (omega (arith, ints)) (omega (arith, ints))
+-- so has one of two rivals
+rivals_apart : (p : Problem) (s : List ℤ) (i j : ℕ) → IsFeasible p s → AreIncompatible p (pair_of i j)
+    → ((start s i +ℤ duration p i) ≤ℤ start s j) ⊎ ((start s j +ℤ duration p j) ≤ℤ start s i)
+rivals_apart p s i j feasible rivals =
+    by_lt_z (start s i) (start s j +ℤ duration p j)
+    (λ late. by_lt_z (start s j) (start s i +ℤ duration p i)
+    (λ early. absurd (apart p s (pair_of i j) feasible rivals late early))
+    (λ kept. inl kept))
+    (λ kept. inr kept)
 
-not_both : (p : Problem) (arcs : List Lag) (s : List ℤ) (u : ℤ) (i j : ℕ) → IsFeasible p s → MeetsAll s arcs
-    → RunApart p arcs i j → NotBoth (is_running p s u) i j
-not_both p arcs s u i j feasible met (inl rivals) = rivals_apart p s u i j feasible rivals
-not_both p arcs s u i j feasible met (inr (inl first)) = in_order p arcs s u i j met first
-not_both p arcs s u i j feasible met (inr (inr second)) = λ runs_i runs_j. in_order p arcs s u j i met second runs_j runs_i
-
--- an activity that runs within the window asks for each of its units there
-runs_there : (p : Problem) (arcs : List Lag) (s : List ℤ) (from to : ℤ) (units i : ℕ) → start s 0 ≡ pos 0
-    → MeetsAll s arcs → to ≡ from +ℤ pos units → pos 0 <ℤ duration p i → RunsWithin p arcs from to i →
-    unsigned_abs (duration p i) ≤ over (λ u. cond (is_running p s (from +ℤ pos u) i) 1 0) units
-runs_there p arcs s from to units i zero met window long within =
-    let late : (start s 0 +ℤ from) ≤ℤ start s i = implied_met arcs s met (arc_of 0 i from) within.late in
-    let early : (start s i +ℤ (duration p i -ℤ to)) ≤ℤ start s 0 = implied_met arcs s met (arc_of i 0 (duration p i -ℤ to)) within.early in
-    let abs : duration p i ≡ pos (unsigned_abs (duration p i)) = abs_is (duration p i) (omega (arith, ints)) in
-    omega (
-      arith,
-      part_in_window p s from units i (unsigned_abs (duration p i)) 1 (omega (arith, ints))
-          (omega (arith, ints)) (omega (arith, ints)) (omega (arith, ints)),
-    )
+one_first : (p : Problem) (arcs : List Lag) (s : List ℤ) (i j : ℕ) → IsFeasible p s → MeetsAll s arcs → RunApart p arcs i j
+    → ((start s i +ℤ duration p i) ≤ℤ start s j) ⊎ ((start s j +ℤ duration p j) ≤ℤ start s i)
+one_first p arcs s i j feasible met (inl rivals) = rivals_apart p s i j feasible rivals
+one_first p arcs s i j feasible met (inr (inl first)) = inl (in_order p arcs s i j met first)
+one_first p arcs s i j feasible met (inr (inr second)) = inr (in_order p arcs s j i met second)
 
 -- so no feasible schedule meets the arcs
 pub clique_refuted : (p : Problem) (arcs : List Lag) (from to : ℤ) (members : List ℕ) (s : List ℤ)
     → IsClique p arcs from to members → IsFeasible p s → MeetsAll s arcs → ⊥
-clique_refuted p arcs from to members s clique feasible met = in_window (gap from to some_room)
+clique_refuted p arcs from to members s clique feasible met =
+    packed (start s) (λ i. unsigned_abs (duration p i)) from to members (omega (arith, clique.several))
+    (λ k d l. within (get_or members k d) (clique.are_members.take_time k d l).long (clique.inside k d l))
+    (λ i j d lt l. ordered (get_or members i d) (get_or members j d)
+    (clique.are_members.take_time i d (omega arith)).long (clique.are_members.take_time j d l).long
+    (clique.apart i j d lt l)) clique.over
   where
-    -- the first of the members runs in the window
-    some_room : from ≤ℤ to
-    some_room =
-        let some : 0 < length members = omega (arith, clique.several) in
-        let i : ℕ = get_or members 0 0 in
-        let within = clique.inside 0 0 some in
-        let time = (clique.are_members.take_time 0 0 some).long in
-        let late : (start s 0 +ℤ from) ≤ℤ start s i = implied_met arcs s met (arc_of 0 i from) within.late in
-        let early : (start s i +ℤ (duration p i -ℤ to)) ≤ℤ start s 0 = implied_met arcs s met (arc_of i 0 (duration p i -ℤ to)) within.early in
-        omega (arith, ints)
+    long_is : (i : ℕ) → pos 0 <ℤ duration p i → duration p i ≡ pos (unsigned_abs (duration p i))
+    long_is i long = abs_is (duration p i) (omega (arith, ints, long))
 
-    in_window : (m : ℕ) × (to ≡ from +ℤ pos m) → ⊥
-    in_window (m, window) =
-        let g : ℕ → ℕ → ℕ = λ u i. cond (is_running p s (from +ℤ pos u) i) 1 0 in
-        let all : ℕ → ℕ = λ i. unsigned_abs (duration p i) in
-        let each : sum_by all members ≤ sum_by (λ i. over (λ u. g u i) m) members =
-        sum_by-le-each all (λ i. over (λ u. g u i) m) members
-        (λ k d l. runs_there p arcs s from to m (get_or members k d) feasible.schedule.from_zero met window
-        (clique.are_members.take_time k d l).long (clique.inside k d l)) in
-        let swapped : over (λ u. sum_by (g u) members) m ≡ sum_by (λ i. over (λ u. g u i) m) members = over-sum_by g m members in
-        let one : (u : ℕ) → sum_by (g u) members ≤ 1 = λ u.
-        one_passes (is_running p s (from +ℤ pos u)) members
-        (λ i j d lt l. not_both p arcs s (from +ℤ pos u) (get_or members i d) (get_or members j d) feasible met
-        (clique.apart i j d lt l)) in
-        let most : over (λ u. sum_by (g u) members) m ≤ m * 1 = over-const (λ u. sum_by (g u) members) 1 m one in
-        let exceeds : to <ℤ (from +ℤ pos (sum_by all members)) = clique.over in
-        omega (arith, ints, each, swapped, most, exceeds)
+    within : (i : ℕ) → pos 0 <ℤ duration p i → RunsWithin p arcs from to i
+        → IsInside (start s) (λ x. unsigned_abs (duration p x)) from to i
+    within i long runs =
+        let zero : start s 0 ≡ pos 0 = feasible.schedule.from_zero in
+        let late : (start s 0 +ℤ from) ≤ℤ start s i = implied_met arcs s met (arc_of 0 i from) runs.late in
+        let early : (start s i +ℤ (duration p i -ℤ to)) ≤ℤ start s 0 = implied_met arcs s met (arc_of i 0 (duration p i -ℤ to)) runs.early in
+        let is = long_is i long in
+        record { late = omega (arith, ints, zero, late); early = omega (arith, ints, zero, early, is) }
+
+    ordered : (i j : ℕ) → pos 0 <ℤ duration p i → pos 0 <ℤ duration p j → RunApart p arcs i j
+        → AreApart (start s) (λ x. unsigned_abs (duration p x)) i j
+    ordered i j long_i long_j run =
+        let is_i = long_is i long_i in
+        let is_j = long_is j long_j in
+        ⊎_elim
+        (λ (first : (start s i +ℤ duration p i) ≤ℤ start s j). inl (omega (arith, ints, first, is_i)))
+        (λ (second : (start s j +ℤ duration p j) ≤ℤ start s i). inr (omega (arith, ints, second, is_j)))
+        (one_first p arcs s i j feasible met run)
 
 pub begins : (xs : List ℕ) → BeginsFrom 0 xs
 begins [] = tt

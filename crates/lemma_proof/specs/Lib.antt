@@ -1,3 +1,5 @@
+pub mod Slots
+pub mod Tours
 pub mod Lines
 pub mod Telling
 pub mod Bench

@@ -1,6 +1,6 @@
 -- The proof of a lemma: lines of which each shows one arc more, until the arcs close a walk of positive weight.
 use Rattle.std.specs.Prelude.{◌≡◌, ◌≢◌, ◌⊎◌, ◌++◌, ◌∷◌, [], ℕ, ℤ, pos, List, Option, None, Some, slice_get}
-use Rattle.std.specs.List.{All, AllByRecursion}
+use Rattle.std.specs.List.{All, AllByRecursion, AllPairs}
 use Rattle.std.specs.Option.{option_to_list}
 use Rattle.network.specs.declared.parts.Lag.{Lag}
 use Rattle.network.specs.declared.parts.Pair.{Pair}
@@ -10,19 +10,15 @@ use Rattle.network.specs.Walk.{HasPositiveCycle}
 use Rattle.longest_path.specs.Insert.{arc_of}
 use Rattle.forbidden_sets.specs.Incompatible.{AreIncompatible}
 use Rattle.lemma_proof.specs.Reasons.{EndsAfterStart, Implies, IsClique, IsLoad, JoinsActivities, reverse_of}
+pub use Rattle.lemma_proof.specs.Slots.{IsIn, Slots}
+use Rattle.lemma_proof.specs.Slots.{HaveDelays, IsSmall}
+use Rattle.lemma_proof.specs.Tours.{IsTour}
 use Rattle.lemma_proof.specs.declared.weights.TheConstants.{MAX_ARC_WEIGHT}
+use Rattle.lemma_proof.specs.declared.line.Interval.{Interval}
 use Rattle.lemma_proof.specs.declared.line.Line.{Line}
 use Rattle.lemma_proof.specs.declared.line.Line.TheVariants.{Force, Use, Push}
 use Rattle.lemma_proof.specs.declared.line.WindowOverload.{WindowOverload}
-use Rattle.lemma_proof.specs.declared.line.WindowOverload.TheVariants.{Load, Clique}
-
--- lemmas by the slots that they are in; none where a slot is empty
-abbrev pub Slots : Type 0
-Slots = List (Option (List Lag))
-
--- the lemma is in the slot
-abbrev pub IsIn : Slots → ℕ → List Lag → Type 0
-IsIn lemmas slot lemma = slice_get lemmas slot ≡ Some (Some lemma)
+use Rattle.lemma_proof.specs.declared.line.WindowOverload.TheVariants.{Load, Clique, Tour}
 
 -- an arc between two activities, with a weight within the limits
 pub record IsArc (p : Problem) (e : Lag) : Type 0 where
@@ -58,22 +54,25 @@ pub record IsUse (lemmas : Slots) (arcs : List Lag) (slot : ℕ) (e : Lag) : Typ
   pub is_left : IsLeft arcs lemma left
   pub reverse : e ≡ reverse_of left
 
--- what must run in a window asks for more than there is, or members that run one at a time take longer than it is
-abbrev pub IsOverload : Problem → List Lag → WindowOverload → Type 0
-IsOverload p arcs (Load resource from to) = IsWindow from to × IsLoad p arcs resource from to
-IsOverload p arcs (Clique from to members) = IsWindow from to × IsClique p arcs from to members
+-- what must run in a window asks for more than there is, or members that run one at a time, or intervals that lie one
+-- after another, take longer than it is
+abbrev pub IsOverload : Problem → Slots → List Lag → WindowOverload → Type 0
+IsOverload p lemmas arcs (Load resource from to) = IsWindow from to × IsLoad p arcs resource from to
+IsOverload p lemmas arcs (Clique from to members) = IsWindow from to × IsClique p arcs from to members
+IsOverload p lemmas arcs (Tour from to intervals) = IsWindow from to × IsTour p lemmas arcs from to intervals
 
 -- the arcs have the overload, so that no schedule meets them; or, where an arc is named, it is implied, or they have it
 -- with the arc's reverse, so that each schedule which meets them meets the arc
-abbrev pub IsPushed : Problem → List Lag → Option Lag → WindowOverload → Lag → Type 0
-IsPushed p arcs None over e = IsOverload p arcs over × (e ≡ impossible)
-IsPushed p arcs (Some f) over e = IsArc p f × (Implies arcs f ⊎ IsOverload p (arcs ++ reverse_of f ∷ []) over) × (e ≡ f)
+abbrev pub IsPushed : Problem → Slots → List Lag → Option Lag → WindowOverload → Lag → Type 0
+IsPushed p lemmas arcs None over e = IsOverload p lemmas arcs over × (e ≡ impossible)
+IsPushed p lemmas arcs (Some f) over e =
+    IsArc p f × (Implies arcs f ⊎ IsOverload p lemmas (arcs ++ reverse_of f ∷ []) over) × (e ≡ f)
 
 -- the line shows of each schedule that meets these arcs, and all arcs of no lemma, that it meets one arc more
 abbrev pub Shows : Problem → Slots → List Lag → Line → Lag → Type 0
 Shows p lemmas arcs (Force pair) e = IsForced p arcs pair × (e ≡ pair_arc p pair)
 Shows p lemmas arcs (Use slot) e = IsUse lemmas arcs slot e
-Shows p lemmas arcs (Push arc over) e = IsPushed p arcs arc over e
+Shows p lemmas arcs (Push arc over) e = IsPushed p lemmas arcs arc over e
 
 -- the lines show arc after arc, until these close a walk of positive weight; the lines after that are idle
 abbrev pub AreRefuted : Problem → Slots → List Lag → List Line → Type 0
@@ -97,13 +96,23 @@ NoneMeetsRefuted =
 abbrev pub ImplyAll : List Lag → List Lag → Type 0
 ImplyAll others arcs = All (Implies others) arcs
 
--- the lemma that a line uses is in the same slot there
+-- the delays that lemmas say of two intervals are said there, too
+abbrev pub KeepsDelays : Slots → Slots → Interval → Interval → Type 0
+KeepsDelays others lemmas m k = HaveDelays lemmas m k → HaveDelays others m k
+
+-- those of each two of the intervals are; of intervals beyond the limits nothing is used
+abbrev pub HasDelays : Slots → Slots → WindowOverload → Type 0
+HasDelays others lemmas (Load resource from to) = Unit {0}
+HasDelays others lemmas (Clique from to members) = Unit {0}
+HasDelays others lemmas (Tour from to intervals) = All IsSmall intervals → AllPairs (KeepsDelays others lemmas) intervals
+
+-- what a line uses is there, too: a lemma in the same slot, or delays of the intervals of a tour
 abbrev pub HasUsed : Slots → Slots → Line → Type 0
 HasUsed others lemmas (Force pair) = Unit {0}
 HasUsed others lemmas (Use slot) = (lemma : List Lag) → IsIn lemmas slot lemma → IsIn others slot lemma
-HasUsed others lemmas (Push arc over) = Unit {0}
+HasUsed others lemmas (Push arc over) = HasDelays others lemmas over
 
--- each lemma that the lines use is
+-- what each of the lines uses is
 abbrev pub HaveUsed : Slots → Slots → List Line → Type 0
 HaveUsed others lemmas lines = AllByRecursion (HasUsed others lemmas) lines
 

@@ -17,8 +17,8 @@ ghost use Rattle.lemma_proof.specs.Stepping.{Steps};
 use crate::dense::{matrix_of_all, take_arc};
 use crate::effort::Effort;
 use crate::line::Line;
-use crate::shows::{Lags, seen_arc, shown_arc, weights_asked};
-use crate::{Block, Weights};
+use crate::shows::{seen_arc, shown_arc, weights_asked};
+use crate::{Block, LemmaSlots, Weights};
 use longest_path::MarkedMatrix;
 use network::{Lag, Project};
 use std::alloc::{AllocError, Global};
@@ -202,7 +202,7 @@ impl Bench {
     }
 
     /// The arc that a line shows, by the matrix of all arcs.
-    fn shown_by_all(&self, project: &Project, lemmas: &[Option<Lags>], line: &Line) -> Option<Lag>
+    fn shown_by_all(&self, project: &Project, lemmas: &LemmaSlots, line: &Line) -> Option<Lag>
         requires size { length self.now.rows ≡ activity_count project.now }
         requires lemmas { AreLemmas project.now lemmas.now }
         ensures there { IsSome result → IsSome self.now.dense }
@@ -220,7 +220,7 @@ impl Bench {
     pub(crate) fn shown_arc(
         &mut self,
         project: &Project,
-        lemmas: &[Option<Lags>],
+        lemmas: &LemmaSlots,
         line: &Line,
     ) -> Result<Option<Lag>, AllocError>
         requires live { self.old.is_infeasible ≡ false }
@@ -251,7 +251,7 @@ impl Bench {
     pub(crate) fn step(
         &mut self,
         project: &Project,
-        lemmas: &[Option<Lags>],
+        lemmas: &LemmaSlots,
         line: &Line,
     ) -> Result<Option<bool>, AllocError>
         requires live { self.old.is_infeasible ≡ false }

@@ -1,7 +1,21 @@
 //! The lines of a lemma's proof.
 
 use network::{Lag, Pair};
-use record_text::Members;
+use record_text::{Listed, Members};
+
+/// The greatest length of an interval, in periods: no horizon is longer.
+pub const MAX_LENGTH: u64 = 1_002_000_000;
+
+/// Of each schedule the periods from `at` after the activity starts on, `length` of them.
+#[derive(Clone, Copy, PartialEq, Eq, Debug)]
+pub struct Interval {
+    pub activity: usize,
+    pub at: i64,
+    pub length: u64,
+}
+
+/// Intervals of activities that rise.
+pub type Intervals = Listed<Interval>;
 
 /// More than there is room for in the window from the period `from` to the period `to`.
 #[derive(Drop, Debug)]
@@ -17,6 +31,12 @@ pub enum WindowOverload {
         from: i64,
         to: i64,
         members: Members,
+    },
+    /// The intervals lie one after another, all within the window, and are longer together than it is.
+    Tour {
+        from: i64,
+        to: i64,
+        intervals: Intervals,
     },
 }
 

@@ -7,7 +7,7 @@ ghost use Rattle.lemma_proof.specs.Reasons.{EndsAfterStart, TellsWhether};
 ghost use Rattle.lemma_proof.specs.Lines.{IsArc, IsOverload, IsWindow};
 
 use crate::line::WindowOverload;
-use crate::{MAX_ARC_WEIGHT, Weights, is_clique, is_load, joins_activities};
+use crate::{LemmaSlots, MAX_ARC_WEIGHT, Weights, is_clique, is_load, is_tour, joins_activities};
 use network::{Lag, MAX_START, Pair, Project};
 
 /// Whether both ends of a window are times.
@@ -39,10 +39,15 @@ pub(crate) fn is_late(project: &Project, weights: &Weights, pair: Pair) -> bool
 }
 
 /// Whether the arcs have the overload.
-pub(crate) fn is_overload(project: &Project, weights: &Weights, over: &WindowOverload) -> bool
+pub(crate) fn is_overload(
+    project: &Project,
+    weights: &Weights,
+    lemmas: &LemmaSlots,
+    over: &WindowOverload,
+) -> bool
     requires { length weights.now.rows ≡ activity_count project.now }
     ensures { TellsWhether (activity_count project.now) weights.now result
-        (λ arcs. IsOverload project.now arcs over.now) }
+        (λ arcs. IsOverload project.now lemmas.now arcs over.now) }
 {
     match over {
         WindowOverload::Load { resource, from, to } => {
@@ -50,6 +55,14 @@ pub(crate) fn is_overload(project: &Project, weights: &Weights, over: &WindowOve
         }
         WindowOverload::Clique { from, to, members } => {
             is_window(*from, *to) && is_clique(project, weights, *from, *to, members.as_slice())
+        }
+        WindowOverload::Tour {
+            from,
+            to,
+            intervals,
+        } => {
+            let intervals = intervals.as_slice();
+            is_window(*from, *to) && is_tour(project, weights, lemmas, *from, *to, intervals)
         }
     }
 }

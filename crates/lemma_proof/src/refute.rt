@@ -11,7 +11,7 @@ ghost use Rattle.lemma_proof.specs.Lines.{AreLemmas, IsArc, IsRefuted, picked};
 use crate::bench::Bench;
 use crate::line::Line;
 use crate::overload::is_arc;
-use crate::shows::Lags;
+use crate::slots::LemmaSlots;
 use network::{Lag, Project};
 use std::alloc::{AllocError, Global};
 
@@ -43,7 +43,7 @@ impl Bench {
         &mut self,
         alloc: Global,
         project: &Project,
-        lemmas: &[Option<Lags>],
+        lemmas: &LemmaSlots,
         arcs: &[Lag],
         lines: &[Line],
     ) -> Result<Option<Vec<usize>>, AllocError>

@@ -13,7 +13,7 @@ ghost use Rattle.lemma_proof.specs.Telling.{TellsArc};
 use crate::left::arc_left;
 use crate::line::{Line, WindowOverload};
 use crate::overload::{is_arc, is_late, is_overload};
-use crate::{Block, Weights, reverse_of};
+use crate::{Block, LemmaSlots, Weights, reverse_of};
 use forbidden_sets::are_incompatible;
 use longest_path::Matrix;
 use network::{Lag, Pair, Project};
@@ -29,30 +29,15 @@ pub const IMPOSSIBLE: Lag = Lag {
     weight: 1,
 };
 
-/// The arcs of the lemma of a slot.
-fn lemma_at(lemmas: &[Option<Lags>], slot: usize) -> Option<&[Lag]>
-    ensures { MatchOption result ((lemma : List Lag) → ¬ IsIn lemmas.now slot lemma) (λ lemma. IsIn lemmas.now slot lemma.now) }
-{
-    match lemmas.get(slot) {
-        Some(Some(lemma)) => Some(lemma.as_slice()),
-        _ => None,
-    }
-}
-
 /// The reverse of the arc that the lemma of a slot leaves, if it leaves but one.
-fn used_arc(
-    project: &Project,
-    weights: &Weights,
-    lemmas: &[Option<Lags>],
-    slot: usize,
-) -> Option<Lag>
+fn used_arc(project: &Project, weights: &Weights, lemmas: &LemmaSlots, slot: usize) -> Option<Lag>
     requires size { length weights.now.rows ≡ activity_count project.now }
     requires lemmas { AreLemmas project.now lemmas.now }
     ensures light { IfSome result (IsLight (activity_count project.now)) }
     ensures told { TellsArc (activity_count project.now) weights.now result
         (λ arcs e. IsUse lemmas.now arcs slot e) }
 {
-    let lemma = lemma_at(lemmas, slot)?;
+    let lemma = lemmas.lemma_in(slot)?;
     let left = arc_left(weights, lemma)?;
     Some(reverse_of(left))
 }
@@ -75,14 +60,19 @@ fn forced_arc(project: &Project, weights: &Weights, pair: Pair) -> Option<Lag>
 }
 
 /// The arc that no starts meet, if the arcs have the overload.
-fn ended_arc(project: &Project, weights: &Weights, over: &WindowOverload) -> Option<Lag>
+fn ended_arc(
+    project: &Project,
+    weights: &Weights,
+    lemmas: &LemmaSlots,
+    over: &WindowOverload,
+) -> Option<Lag>
     requires { length weights.now.rows ≡ activity_count project.now }
     ensures light { IfSome result (IsLight (activity_count project.now)) }
     ensures told { TellsArc (activity_count project.now) weights.now result
-        (λ arcs e. IsOverload project.now arcs over.now × (e ≡ impossible)) }
+        (λ arcs e. IsOverload project.now lemmas.now arcs over.now × (e ≡ impossible)) }
 {
     prove!(project.activity_count() >= 2);
-    if is_overload(project, weights, over) {
+    if is_overload(project, weights, lemmas, over) {
         Some(IMPOSSIBLE)
     } else {
         None
@@ -91,38 +81,50 @@ fn ended_arc(project: &Project, weights: &Weights, over: &WindowOverload) -> Opt
 
 /// Whether the matrix of its block implies the arc, or the block has the overload with the arc's reverse, which is not
 /// inserted.
-fn is_pushed(project: &Project, matrix: &Matrix, arc: Lag, over: &WindowOverload) -> bool
+fn is_pushed(
+    project: &Project,
+    matrix: &Matrix,
+    lemmas: &LemmaSlots,
+    arc: Lag,
+    over: &WindowOverload,
+) -> bool
     requires size { length matrix.now ≡ activity_count project.now }
     requires arc { IsArc project.now arc }
     ensures { (arcs : List Lag) → IsMatrixOf (activity_count project.now) arcs matrix.now →
-        IsTrue result ↔ (Implies arcs arc ⊎ IsOverload project.now (arcs ++ reverse_of arc ∷ []) over.now) }
+        IsTrue result ↔ (Implies arcs arc ⊎ IsOverload project.now lemmas.now (arcs ++ reverse_of arc ∷ []) over.now) }
 {
     if Weights::of(matrix).implies(arc) {
         return true;
     }
-    is_overload(project, &Weights::with(matrix, reverse_of(arc)), over)
+    is_overload(
+        project,
+        &Weights::with(matrix, reverse_of(arc)),
+        lemmas,
+        over,
+    )
 }
 
 /// The arc that an overload shows, by the matrix.
 fn pushed_arc(
     project: &Project,
     matrix: &Matrix,
+    lemmas: &LemmaSlots,
     arc: Option<Lag>,
     over: &WindowOverload,
 ) -> Option<Lag>
     requires size { length matrix.now ≡ activity_count project.now }
     ensures light { IfSome result (IsLight (activity_count project.now)) }
     ensures shown { (arcs : List Lag) → IsMatrixOf (activity_count project.now) arcs matrix.now →
-        MatchOption result ((e : Lag) → ¬ IsPushed project.now arcs arc over.now e)
-        (IsPushed project.now arcs arc over.now) }
+        MatchOption result ((e : Lag) → ¬ IsPushed project.now lemmas.now arcs arc over.now e)
+        (IsPushed project.now lemmas.now arcs arc over.now) }
 {
     let Some(arc) = arc else {
-        return ended_arc(project, &Weights::of(matrix), over);
+        return ended_arc(project, &Weights::of(matrix), lemmas, over);
     };
     if !is_arc(project, arc) {
         return None;
     }
-    if is_pushed(project, matrix, arc, over) {
+    if is_pushed(project, matrix, lemmas, arc, over) {
         Some(arc)
     } else {
         None
@@ -133,7 +135,7 @@ fn pushed_arc(
 pub(crate) fn shown_arc(
     project: &Project,
     matrix: &Matrix,
-    lemmas: &[Option<Lags>],
+    lemmas: &LemmaSlots,
     line: &Line,
 ) -> Option<Lag>
     requires size { length matrix.now ≡ activity_count project.now }
@@ -146,12 +148,18 @@ pub(crate) fn shown_arc(
     match line {
         Line::Force(pair) => forced_arc(project, &Weights::of(matrix), *pair),
         Line::Use(slot) => used_arc(project, &Weights::of(matrix), lemmas, *slot),
-        Line::Push { arc, over } => pushed_arc(project, matrix, *arc, over),
+        Line::Push { arc, over } => pushed_arc(project, matrix, lemmas, *arc, over),
     }
 }
 
 /// Whether walks that are easily seen show that the block implies the arc, or has the overload with the arc's reverse.
-fn is_seen_pushed(project: &Project, block: &mut Block, arc: Lag, over: &WindowOverload) -> bool
+fn is_seen_pushed(
+    project: &Project,
+    block: &mut Block,
+    lemmas: &LemmaSlots,
+    arc: Lag,
+    over: &WindowOverload,
+) -> bool
     requires size { length block.old.rows ≡ activity_count project.now }
     requires arc { IsArc project.now arc }
     ensures rows { block.new.rows ≡ block.old.rows }
@@ -159,7 +167,7 @@ fn is_seen_pushed(project: &Project, block: &mut Block, arc: Lag, over: &WindowO
     ensures pushed { IsTrue result → (own : List Lag) → IsMatrixOf (activity_count project.now) own block.old.rows →
         HasNoPositiveCycle (own ++ block.old.more) →
         Implies (own ++ block.old.more) arc
-        ⊎ IsOverload project.now ((own ++ block.old.more) ++ reverse_of arc ∷ []) over.now }
+        ⊎ IsOverload project.now lemmas.now ((own ++ block.old.more) ++ reverse_of arc ∷ []) over.now }
 {
     prove!(block.activity_count() > 0);
     if Weights::seen(block, None).implies(arc) {
@@ -167,13 +175,14 @@ fn is_seen_pushed(project: &Project, block: &mut Block, arc: Lag, over: &WindowO
     }
     let reverse = reverse_of(arc);
     block.try_arc(reverse);
-    is_overload(project, &Weights::seen(block, Some(reverse)), over)
+    is_overload(project, &Weights::seen(block, Some(reverse)), lemmas, over)
 }
 
 /// The arc that an overload shows, by walks that are easily seen.
 fn seen_pushed_arc(
     project: &Project,
     block: &mut Block,
+    lemmas: &LemmaSlots,
     arc: Option<Lag>,
     over: &WindowOverload,
 ) -> Option<Lag>
@@ -183,16 +192,16 @@ fn seen_pushed_arc(
     ensures light { IfSome result (IsLight (activity_count project.now)) }
     ensures pushed { (own : List Lag) → IsMatrixOf (activity_count project.now) own block.old.rows →
         HasNoPositiveCycle (own ++ block.old.more) →
-        IfSome result (IsPushed project.now (own ++ block.old.more) arc over.now) }
+        IfSome result (IsPushed project.now lemmas.now (own ++ block.old.more) arc over.now) }
 {
     prove!(block.activity_count() > 0);
     let Some(arc) = arc else {
-        return ended_arc(project, &Weights::seen(block, None), over);
+        return ended_arc(project, &Weights::seen(block, None), lemmas, over);
     };
     if !is_arc(project, arc) {
         return None;
     }
-    if is_seen_pushed(project, block, arc, over) {
+    if is_seen_pushed(project, block, lemmas, arc, over) {
         Some(arc)
     } else {
         None
@@ -200,14 +209,21 @@ fn seen_pushed_arc(
 }
 
 /// For how many weights a line asks at most, where each may take as many steps as there are arcs beside the matrix.
-pub(crate) fn weights_asked(lemmas: &[Option<Lags>], line: &Line) -> usize {
+pub(crate) fn weights_asked(lemmas: &LemmaSlots, line: &Line) -> usize {
     match line {
-        Line::Use(slot) => lemma_at(lemmas, *slot).map_or(0, |lemma| lemma.len()),
+        Line::Use(slot) => lemmas.lemma_in(*slot).map_or(0, |lemma| lemma.len()),
         Line::Push {
             over: WindowOverload::Clique { members, .. },
             ..
         } => {
             let count = members.as_slice().len();
+            count.saturating_mul(count)
+        }
+        Line::Push {
+            over: WindowOverload::Tour { intervals, .. },
+            ..
+        } => {
+            let count = intervals.as_slice().len();
             count.saturating_mul(count)
         }
         _ => 1,
@@ -220,7 +236,7 @@ pub(crate) fn seen_arc(
     project: &Project,
     block: &mut Block,
     spent: bool,
-    lemmas: &[Option<Lags>],
+    lemmas: &LemmaSlots,
     line: &Line,
 ) -> Option<Lag>
     requires size { length block.old.rows ≡ activity_count project.now }
@@ -239,6 +255,6 @@ pub(crate) fn seen_arc(
     match line {
         Line::Force(pair) => forced_arc(project, &Weights::seen(block, None), *pair),
         Line::Use(slot) => used_arc(project, &Weights::seen(block, None), lemmas, *slot),
-        Line::Push { arc, over } => seen_pushed_arc(project, block, *arc, over),
+        Line::Push { arc, over } => seen_pushed_arc(project, block, lemmas, *arc, over),
     }
 }

@@ -33,32 +33,22 @@ all_push P (y ∷ xs) x all here = (all.0, all_push P xs x all.1 here)
 
 -- ---- what is logged of an event
 
-all_append : {X : Type 0} (P : X → Type 0) (xs ys : List X) → AllByRecursion P xs → AllByRecursion P ys → AllByRecursion P (xs ++ ys)
-all_append P [] ys first second = second
-all_append P (x ∷ xs) ys first second = (first.0, all_append P xs ys first.1 second)
-
-at_place : {X : Type 0} (P : X → Type 0) (xs : List X) (place : ℕ) → AllByRecursion P xs → AllByRecursion P (option_to_list (slice_get xs place))
-at_place {X} P xs place all =
-    ⊎_elim
-    (λ (here : (x : X) × (place < length xs) × (slice_get xs place ≡ Some x) × (get_or xs place x ≡ x)).
-    rw here.2 (subst P here.3 (each_at P xs place here.0 here.1 all), record {}))
-    (λ (past : (length xs ≤ place) × (slice_get xs place ≡ None)). rw past.1 (record {}))
-    (slice_get_cases xs place).1
-
-picked_all : (P : Line → Type 0) (lines : List Line) (places : List ℕ) → AllByRecursion P lines → AllByRecursion P (picked lines places)
-picked_all P lines [] all = record {}
-picked_all P lines (place ∷ places) all =
-    all_append P (option_to_list (slice_get lines place)) (picked lines places) (at_place P lines place all)
-    (picked_all P lines places all)
-
 logged_step : (e logged : Event) → IsStep e → IsLoggedOf e logged → IsStep logged
-logged_step (event.Lemma slot arcs lines) logged is part = rw part.1 tt
+logged_step (event.Lemma slot arcs lines) logged is part =
+    ⊎_elim
+    (λ (same : logged ≡ event.Lemma slot arcs lines). rw same tt)
+    (λ (some : ((places : List ℕ) × (logged ≡ event.Lemma slot arcs (picked lines places))) × IsWritableBody logged). rw some.0.1 tt)
+    part
 logged_step (event.Drop slot) logged is part = rw part tt
 logged_step (event.Schedule starts) logged is part = rw part tt
 logged_step (event.Claim c) logged is part = absurd is
 
 logged_body : (e logged : Event) → IsWritableBody e → IsLoggedOf e logged → IsWritableBody logged
-logged_body (event.Lemma slot arcs lines) logged is part = rw part.1 (is.0, is.1, is.2, picked_all IsWritableLine lines part.0 is.3)
+logged_body (event.Lemma slot arcs lines) logged is part =
+    ⊎_elim
+    (λ (same : logged ≡ event.Lemma slot arcs lines). rw same is)
+    (λ (some : ((places : List ℕ) × (logged ≡ event.Lemma slot arcs (picked lines places))) × IsWritableBody logged). some.1)
+    part
 logged_body (event.Drop slot) logged is part = rw part is
 logged_body (event.Schedule starts) logged is part = rw part is
 logged_body (event.Claim c) logged is part = rw part is

@@ -10,7 +10,7 @@ use Rattle.lemma_proof.proofs.Staying.{have_used}
 use Rattle.lemma_book.specs.Ledger.{HasRoom, IsFilled, IsFree, LedgerOf, MayTake}
 use Rattle.lemma_book.specs.Premises.{AreAhead, Covers, Follows, PremisesOf, premises_in, with_roots}
 use Rattle.lemma_book.proofs.Premised.{covered_refuted}
-use Rattle.lemma_book.proofs.Slotted.{shelved_there}
+use Rattle.lemma_proof.proofs.Slotted.{shelved_there}
 use Rattle.lemma_record.specs.declared.desk.Lemma.{Lemma}
 use Rattle.lemma_record.specs.Desk.{DeskOf, IsDesk, IsShown, MayCopy, shelved}
 use Rattle.lemma_record.proofs.Booked.{all_push}

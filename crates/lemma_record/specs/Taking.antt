@@ -1,15 +1,18 @@
 -- What becomes of an event that a ledger is given.
-use Rattle.std.specs.Prelude.{Bool, true, false, ◌≡◌, ℕ, List}
+use Rattle.std.specs.Prelude.{Bool, true, false, ◌≡◌, ◌⊎◌, ℕ, List}
 use Rattle.lemma_proof.specs.Lines.{picked}
 use Rattle.lemma_log.specs.declared.event.Event.{Event}
 use Rattle.lemma_log.specs.declared.event.Event.TheVariants as event
+use Rattle.lemma_log.specs.Text.{IsWritableBody}
 use Rattle.lemma_book.specs.Ledger.{LedgerOf}
 use Rattle.lemma_record.specs.Right.{Takes}
 use Rattle.lemma_record.specs.Parts.{TakesIf}
 
--- what is logged of an event: of a lemma some of its lines, of another all
+-- what is logged of an event: of a lemma all of its lines, or some if a log has room for these, of another all
 abbrev pub IsLoggedOf : Event → Event → Type 0
-IsLoggedOf (event.Lemma slot arcs lines) logged = (places : List ℕ) × (logged ≡ event.Lemma slot arcs (picked lines places))
+IsLoggedOf (event.Lemma slot arcs lines) logged =
+    (logged ≡ event.Lemma slot arcs lines)
+    ⊎ (((places : List ℕ) × (logged ≡ event.Lemma slot arcs (picked lines places))) × IsWritableBody logged)
 IsLoggedOf (event.Drop slot) logged = logged ≡ event.Drop slot
 IsLoggedOf (event.Schedule starts) logged = logged ≡ event.Schedule starts
 IsLoggedOf (event.Claim c) logged = logged ≡ event.Claim c

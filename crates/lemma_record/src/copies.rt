@@ -5,7 +5,7 @@ ghost use Rattle.std.specs.Option.{option_to_list};
 ghost use Rattle.lemma_proof.specs.Lines.{picked};
 
 use lemma_log::Lines;
-use lemma_proof::{Line, WindowOverload};
+use lemma_proof::{Intervals, Line, WindowOverload};
 use record_text::Members;
 use std::alloc::{AllocError, Global};
 
@@ -25,6 +25,18 @@ fn over_copy(alloc: Global, over: &WindowOverload) -> Result<WindowOverload, All
                 from: *from,
                 to: *to,
                 members: Members::new(members),
+            })
+        }
+        WindowOverload::Tour {
+            from,
+            to,
+            intervals,
+        } => {
+            let intervals = intervals.as_slice().to_vec(alloc)?;
+            Ok(WindowOverload::Tour {
+                from: *from,
+                to: *to,
+                intervals: Intervals::new(intervals),
             })
         }
     }
@@ -68,6 +80,17 @@ pub(crate) fn picked(alloc: Global, lines: &[Line], places: &[usize]) -> Result<
     let mut copies = Vec::with_capacity(alloc, places.len())?;
     for place in places {
         put_copy(alloc, &mut copies, lines, *place)?;
+    }
+    Ok(Lines::new(copies))
+}
+
+/// Copies of all lines.
+pub(crate) fn all_copied(alloc: Global, lines: &[Line]) -> Result<Lines, AllocError>
+    ensures { IfOk result (λ copies. copies ≡ lines.now) }
+{
+    let mut copies = Vec::with_capacity(alloc, lines.len())?;
+    for line in lines {
+        copies.push(line_copy(alloc, line)?)?;
     }
     Ok(Lines::new(copies))
 }

@@ -1,16 +1,44 @@
 //! What an event makes of a ledger.
 
-ghost use Rattle.std.specs.Prelude.{◌≡◌, ◌↔◌, IfOk, OnErr, MatchOption, IsTrue};
+ghost use Rattle.std.specs.Prelude.{◌≡◌, ◌↔◌, ◌⊎◌, IfOk, OnErr, MatchOption, IsTrue};
+ghost use Rattle.lemma_log.specs.Text.{IsWritableBody};
 ghost use Rattle.lemma_log.specs.declared.event.Event.TheVariants as events;
+ghost use Rattle.lemma_proof.specs.Lines.{picked};
 ghost use Rattle.lemma_record.specs.Taking.{IsRefused, IsTaken};
 
-use crate::copies::picked;
+use crate::copies::{all_copied, picked};
 use lemma_book::Ledger;
-use lemma_log::Event;
+use lemma_log::{Event, is_writable};
 use lemma_proof::{Lags, Line};
-use network::Verdict;
+use network::{Lag, Verdict};
 use record_text::Starts;
 use std::alloc::{AllocError, Global};
+
+/// What is logged of a lemma: the lines of these places, or all if those are too many for a log.
+fn lemma_logged(
+    alloc: Global,
+    slot: usize,
+    arcs: &[Lag],
+    lines: &[Line],
+    places: &[usize],
+) -> Result<Event, AllocError>
+    ensures { IfOk result (λ logged. (logged ≡ events.Lemma slot arcs.now lines.now)
+        ⊎ ((logged ≡ events.Lemma slot arcs.now (picked lines.now places.now)) × IsWritableBody logged)) }
+{
+    let some = Event::Lemma {
+        slot,
+        arcs: Lags::new(arcs.to_vec(alloc)?),
+        lines: picked(alloc, lines, places)?,
+    };
+    if is_writable(&some) {
+        return Ok(some);
+    }
+    Ok(Event::Lemma {
+        slot,
+        arcs: Lags::new(arcs.to_vec(alloc)?),
+        lines: all_copied(alloc, lines)?,
+    })
+}
 
 /// Takes a lemma, if it may be taken.
 fn take_lemma(
@@ -28,14 +56,9 @@ fn take_lemma(
     let Some(places) = ledger.may_take(slot, arcs.as_slice(), lines)? else {
         return Ok(None);
     };
-    let lines = picked(alloc, lines, &places)?;
-    let logged = Lags::new(arcs.as_slice().to_vec(alloc)?);
+    let logged = lemma_logged(alloc, slot, arcs.as_slice(), lines, &places)?;
     ledger.keep(slot, arcs)?;
-    Ok(Some(Event::Lemma {
-        slot,
-        arcs: logged,
-        lines,
-    }))
+    Ok(Some(logged))
 }
 
 /// Takes a drop, if there is a lemma in the slot.

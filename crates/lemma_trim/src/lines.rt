@@ -1,7 +1,7 @@
 //! The lines of a lemma by other slots.
 
 use lemma_log::Lines;
-use lemma_proof::{Line, WindowOverload};
+use lemma_proof::{Intervals, Line, WindowOverload};
 use record_text::Members;
 use std::alloc::{AllocError, Global};
 
@@ -17,6 +17,15 @@ fn over_copy(alloc: Global, over: &WindowOverload) -> Result<WindowOverload, All
             from: *from,
             to: *to,
             members: Members::new(members.as_slice().to_vec(alloc)?),
+        },
+        WindowOverload::Tour {
+            from,
+            to,
+            intervals,
+        } => WindowOverload::Tour {
+            from: *from,
+            to: *to,
+            intervals: Intervals::new(intervals.as_slice().to_vec(alloc)?),
         },
     })
 }

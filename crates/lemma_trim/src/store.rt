@@ -1,8 +1,11 @@
 //! The lemmas of a log that may be needed: those that are live, and those that they rest on.
 
+use lemma_book::MAX_SLOTS;
 use lemma_log::{Event, Lines};
-use lemma_proof::Line;
+use lemma_proof::{Interval, Lags, LemmaSlots, Line, WindowOverload, is_small};
+use network::{Lag, MAX_ACTIVITIES};
 use std::alloc::{AllocError, Global};
+use std::collections::BTreeSet;
 use std::mem;
 
 /// A lemma, and what holds it.
@@ -14,8 +17,21 @@ pub(crate) struct KeptLemma {
     pub(crate) event: Vec<u8>,
     /// For each of its lines `use` the place of that lemma; none if the slot was empty, so that nobody looks at the line.
     pub(crate) uses: Vec<Option<usize>>,
-    /// How many lines of kept lemmas use it; and one more while it is in a slot or in the root.
+    /// The places of the lemmas whose delays its tours need, each once.
+    pub(crate) delays: Vec<usize>,
+    /// How many lines of kept lemmas use it, and how many kept lemmas need its delays; and one more while it is in a slot
+    /// or in the root.
     holders: u64,
+}
+
+/// The places of all lemmas that a lemma holds, each as often as it does.
+pub(crate) fn held(
+    alloc: Global,
+    uses: &[Option<usize>],
+    delays: &[usize],
+) -> Result<Vec<usize>, AllocError> {
+    let used = uses.iter().flatten();
+    used.chain(delays.iter()).copied().collect(alloc)
 }
 
 /// Lemmas at places, which a lemma keeps as long as something holds it.
@@ -27,6 +43,8 @@ pub(crate) struct LemmaStore {
     free: Vec<usize>,
     /// By slot of the log: the place of its lemma.
     slots: Vec<Option<usize>>,
+    /// By slot of the log: the lemmas of two arcs.
+    delays: LemmaSlots,
     /// How many lemmas came.
     count: u64,
 }
@@ -39,6 +57,7 @@ impl LemmaStore {
             lemmas: Vec::new(alloc),
             free: Vec::new(alloc),
             slots: Vec::new(alloc),
+            delays: LemmaSlots::new(alloc),
             count: 0,
         }
     }
@@ -56,9 +75,13 @@ impl LemmaStore {
                 if arcs.as_slice().len() < 2 {
                     return Ok(()); // the root holds it
                 }
+                self.put_delays(*slot, arcs.as_slice())?;
                 self.put(*slot, place)
             }
-            Event::Drop { slot } => self.empty(*slot),
+            Event::Drop { slot } => {
+                self.delays.let_go(*slot);
+                self.empty(*slot)
+            }
             _ => Ok(()),
         }
     }
@@ -74,10 +97,59 @@ impl LemmaStore {
         Ok(uses)
     }
 
+    /// Adds the places of the lemmas by which an interval and each of these have no time in common.
+    fn add_delays_of(
+        &self,
+        found: &mut BTreeSet<usize>,
+        interval: Interval,
+        others: &[Interval],
+    ) -> Result<(), AllocError> {
+        for other in others {
+            if !is_small(interval) || !is_small(*other) {
+                continue;
+            }
+            let slot = self.delays.slot_of_delays(*other, interval);
+            if let Some(Some(place)) = slot.and_then(|slot| self.slots.get(slot)) {
+                found.insert(*place)?;
+            }
+        }
+        Ok(())
+    }
+
+    /// Adds those by which any two intervals of a line have none. A tour that is right has one interval of an activity at
+    /// most.
+    fn add_delays(&self, found: &mut BTreeSet<usize>, line: &Line) -> Result<(), AllocError> {
+        let Line::Push {
+            over: WindowOverload::Tour { intervals, .. },
+            ..
+        } = line
+        else {
+            return Ok(());
+        };
+        let intervals = intervals.as_slice();
+        if intervals.len() > MAX_ACTIVITIES {
+            return Ok(());
+        }
+        for (place, interval) in intervals.iter().enumerate() {
+            self.add_delays_of(found, *interval, &intervals[..place])?;
+        }
+        Ok(())
+    }
+
+    /// The places of the lemmas whose delays the tours of lines need, each once.
+    fn delays_of(&self, lines: &Lines) -> Result<Vec<usize>, AllocError> {
+        let mut found = BTreeSet::new(self.alloc);
+        for line in lines.as_slice() {
+            self.add_delays(&mut found, line)?;
+        }
+        found.into_iter().collect(self.alloc)
+    }
+
     /// Adds a lemma of these lines and this event, which something holds. Its place.
     fn add(&mut self, lines: &Lines, bytes: &[u8]) -> Result<usize, AllocError> {
         let uses = self.uses_of(lines)?;
-        for place in uses.iter().flatten() {
+        let delays = self.delays_of(lines)?;
+        for place in &held(self.alloc, &uses, &delays)? {
             if let Some(lemma) = self.at(*place) {
                 lemma.holders = lemma.holders.wrapping_add(1);
             }
@@ -86,6 +158,7 @@ impl LemmaStore {
             number: self.count,
             event: bytes.to_vec(self.alloc)?,
             uses,
+            delays,
             holders: 1,
         };
         self.count = self.count.wrapping_add(1);
@@ -103,6 +176,14 @@ impl LemmaStore {
         let place = self.lemmas.len();
         self.lemmas.push(Some(lemma))?;
         Ok(place)
+    }
+
+    /// A slot of the log has a lemma of these arcs.
+    fn put_delays(&mut self, slot: usize, arcs: &[Lag]) -> Result<(), AllocError> {
+        if arcs.len() == 2 && slot < MAX_SLOTS {
+            self.delays.put(slot, Lags::new(arcs.to_vec(self.alloc)?))?;
+        }
+        Ok(())
     }
 
     /// A slot of the log has the lemma at a place.
@@ -134,7 +215,7 @@ impl LemmaStore {
                 break;
             };
             if self.is_let_go(place) {
-                for place in self.remove(place)?.iter().flatten() {
+                for place in &self.remove(place)? {
                     released.push(*place)?;
                 }
             }
@@ -151,14 +232,14 @@ impl LemmaStore {
         lemma.holders == 0
     }
 
-    /// Removes the lemma at a place. Which ones it used.
-    fn remove(&mut self, place: usize) -> Result<Vec<Option<usize>>, AllocError> {
+    /// Removes the lemma at a place. Which ones it held.
+    fn remove(&mut self, place: usize) -> Result<Vec<usize>, AllocError> {
         let lemma = self.lemmas.get_mut(place).and_then(|room| room.take());
         self.free.push(place)?;
-        Ok(match lemma {
-            Some(lemma) => lemma.uses,
-            None => Vec::new(self.alloc),
-        })
+        match lemma {
+            Some(lemma) => held(self.alloc, &lemma.uses, &lemma.delays),
+            None => Ok(Vec::new(self.alloc)),
+        }
     }
 
     /// The log has ended: its slots hold nothing any more. The places of the lemmas that are left, in the order of the log.

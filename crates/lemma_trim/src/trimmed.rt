@@ -2,7 +2,7 @@
 
 use crate::lines::with_slots;
 use crate::slots::Slots;
-use crate::store::LemmaStore;
+use crate::store::{LemmaStore, held};
 use lemma_log::{Event, put_event, put_title, read_event};
 use std::alloc::{AllocError, Global};
 use std::mem;
@@ -67,19 +67,20 @@ impl Trimmed {
         Ok((!piece.is_empty()).then_some(piece))
     }
 
-    /// Writes the lemma at a place, and drops what is used by it last.
+    /// Writes the lemma at a place, and drops what is held by it last.
     fn put_lemma(&mut self, piece: &mut Vec<u8>, place: usize) -> Result<(), AllocError> {
         let Some(lemma) = self.store.at(place) else {
             return Ok(());
         };
         let event = mem::replace(&mut lemma.event, Vec::new(self.alloc));
         let uses = mem::replace(&mut lemma.uses, Vec::new(self.alloc));
+        let held = held(self.alloc, &uses, &lemma.delays)?;
         if let Ok(read) = read_event(self.alloc, &event) {
             if let Some(event) = self.renamed(read.event, &uses, place)? {
                 put_event(piece, &event)?;
             }
         }
-        self.put_drops(piece, &uses)
+        self.put_drops(piece, &held)
     }
 
     /// The event of the lemma at a place, by slots of this log. Its own is filled.
@@ -104,10 +105,10 @@ impl Trimmed {
         Ok(Some(Event::Lemma { slot, arcs, lines }))
     }
 
-    /// Writes drops of those of these lemmas that no other line is to use, by slot.
-    fn put_drops(&mut self, piece: &mut Vec<u8>, uses: &[Option<usize>]) -> Result<(), AllocError> {
+    /// Writes drops of those of these lemmas that nothing else holds, by slot.
+    fn put_drops(&mut self, piece: &mut Vec<u8>, held: &[usize]) -> Result<(), AllocError> {
         let mut dropped = Vec::new(self.alloc);
-        for place in uses.iter().flatten() {
+        for place in held {
             if self.store.is_let_go(*place) {
                 if let Some(slot) = self.slots.slot_of(*place) {
                     dropped.push(slot)?;

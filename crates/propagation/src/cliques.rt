@@ -7,7 +7,7 @@ use crate::edges::Edges;
 use crate::pay::Pay;
 use crate::windows::{Window, overload, reached, renew_all};
 use crate::{BoundChange, Conflict, Literal, NEVER, Reason, Stop, Trail};
-use instance::{Instance, Result, Rows, Table, narrow};
+use instance::{Instance, Member, Result, Rows, Table, narrow};
 use std::mem;
 
 /// The most members of a clique that is looked at everywhere.
@@ -23,12 +23,12 @@ struct Seat {
     place: u32,
 }
 
-/// A clique, and the places of two activities, of which one runs before the other.
+/// A clique, and the places of two members, of which one runs before the other.
 #[derive(Clone, Copy, Default)]
-struct Seats {
-    clique: u32,
-    one: u32,
-    other: u32,
+pub struct Seats {
+    pub clique: u32,
+    pub one: u32,
+    pub other: u32,
 }
 
 /// The cliques of a search.
@@ -40,7 +40,7 @@ pub struct Cliques<'a> {
     pub(crate) turned: Rows<Window>,
     /// So many cliques are looked at everywhere. Those after them are so at the root and below a supposed end alone.
     short: u32,
-    pub members: Rows<u32>,
+    pub members: Rows<Member>,
     /// By all members, clique after clique: the places of those that are known to run before it, and after it.
     pub(crate) before: Table<Set>,
     pub(crate) after: Table<Set>,
@@ -70,23 +70,38 @@ fn most_members(found: &Rows<u32>) -> usize {
 }
 
 /// Adds the cliques that have so many members.
-fn add_all(members: &mut Rows<u32>, found: &Rows<u32>, least: usize, most: usize) -> Result<()> {
+fn add_all(
+    members: &mut Rows<Member>,
+    instance: &Instance,
+    found: &Rows<u32>,
+    least: usize,
+    most: usize,
+) -> Result<()> {
     for clique in 0..found.count() {
         let row = found.row(clique);
         if least <= row.len() && row.len() <= most {
-            members.push_row(row)?;
+            for activity in row {
+                members.values.push(Member::of(instance, *activity))?;
+            }
+            members.close()?;
         }
     }
     Ok(())
 }
 
 /// The cliques that are looked at everywhere, and then the long ones. Gives how many the first are.
-fn parted(instance: &Instance, found: &Rows<u32>) -> Result<(Rows<u32>, u32)> {
-    let most = most_members(found);
-    let mut members = Rows::new(instance.alloc, 0);
-    add_all(&mut members, found, 0, most)?;
+fn parted(instance: &Instance, found: &Rows<u32>) -> Result<(Rows<Member>, u32)> {
+    let (most, none) = (most_members(found), Member::default());
+    let mut members = Rows::new(instance.alloc, none);
+    add_all(&mut members, instance, found, 0, most)?;
     let count = members.count();
-    add_all(&mut members, found, most.saturating_add(1), usize::MAX)?;
+    add_all(
+        &mut members,
+        instance,
+        found,
+        most.saturating_add(1),
+        usize::MAX,
+    )?;
     Ok((members, count))
 }
 
@@ -132,17 +147,23 @@ impl<'a> Cliques<'a> {
 
     /// Lists the windows of a clique's members, and adds their places to those of activities.
     fn seat(&mut self, clique: u32, seats: &mut Vec<(u32, Seat)>) -> Result<()> {
-        for (place, activity) in (0..u32::MAX).zip(self.members.row(clique)) {
+        for (place, member) in (0..u32::MAX).zip(self.members.row(clique)) {
+            let Member {
+                activity,
+                at,
+                length,
+            } = *member;
             let window = Window {
-                duration: self.instance.durations[*activity],
-                activity: *activity,
+                duration: length,
+                activity,
+                at,
                 place,
                 ..Window::default()
             };
             self.windows.values.push(window)?;
             self.turned.values.push(window)?;
             if clique < self.short {
-                seats.push((*activity, Seat { clique, place }))?;
+                seats.push((activity, Seat { clique, place }))?;
             }
         }
         self.windows.close()?;
@@ -172,9 +193,7 @@ impl<'a> Cliques<'a> {
             let count = narrow(self.members.row(clique).len()).max(1);
             for at in 0..count.wrapping_mul(count) {
                 let (one, other) = (at / count, at % count);
-                let a = self.members.values[self.at(clique, one)];
-                let b = self.members.values[self.at(clique, other)];
-                match edges.precedence(a, b) {
+                match self.precedence(edges, clique, one, other) {
                     None => self.turn(clique, one, other),
                     Some(NEVER) => {}
                     Some(order) => pairs.push((order.slot, Seats { clique, one, other }))?,
@@ -188,6 +207,31 @@ impl<'a> Cliques<'a> {
     /// Where the bits of a place of a clique stand.
     pub(crate) fn at(&self, clique: u32, place: u32) -> u32 {
         self.members.numbers(clique).start.wrapping_add(place)
+    }
+
+    /// The member at a place.
+    pub fn member(&self, clique: u32, place: u32) -> Member {
+        self.members.values[self.at(clique, place)]
+    }
+
+    /// The literal by which one member ends before another one begins; none if it does so by lags.
+    pub fn precedence(&self, edges: &Edges, clique: u32, one: u32, other: u32) -> Option<Literal> {
+        let (a, b) = (self.member(clique, one), self.member(clique, other));
+        edges.precedence(a.activity, b.activity)
+    }
+
+    /// By cliques that are looked at everywhere: the places of two members of which the literal of a slot says that the
+    /// first runs before the second.
+    pub fn ordered_by(&self, slot: u32) -> &[Seats] {
+        self.pairs.row(slot)
+    }
+
+    /// The place of an activity's member in a clique that is looked at everywhere.
+    pub fn place_of(&self, clique: u32, activity: u32) -> u32 {
+        let mut seats = self.seats.row(activity).iter();
+        seats
+            .find(|seat| seat.clique == clique)
+            .map_or(0, |seat| seat.place)
     }
 
     /// It gets known that one member runs before another one, or, where it was, unknown.
@@ -212,7 +256,6 @@ impl<'a> Cliques<'a> {
     #[inline(always)]
     fn notice_bound(&mut self, event: &BoundChange) -> Result<()> {
         let (activity, is_least) = (event.slot / 2, event.slot % 2 == 0);
-        let duration = self.instance.durations[activity];
         for number in self.seats.numbers(activity) {
             let Seat { clique, place } = self.seats.values[number];
             let at = self.at(clique, place);
@@ -221,16 +264,18 @@ impl<'a> Cliques<'a> {
             } else {
                 self.before[at]
             };
+            let Member { at, length, .. } = self.member(clique, place);
             let news = self.note(clique)?;
             if is_least {
-                news.least.note(beside, event.old, event.new);
-            } else {
-                let (old, new) = (event.old, event.new);
-                news.greatest.note(
+                news.least.note(
                     beside,
-                    old.wrapping_sub(duration),
-                    new.wrapping_sub(duration),
+                    event.old.wrapping_add(at),
+                    event.new.wrapping_add(at),
                 );
+            } else {
+                let back = at.wrapping_add(length);
+                let (old, new) = (event.old.wrapping_sub(back), event.new.wrapping_sub(back));
+                news.greatest.note(beside, old, new);
             }
         }
         Ok(())
@@ -275,8 +320,13 @@ impl<'a> Cliques<'a> {
                 true => (place, one, other),
                 false => (one, other, place),
             };
-            let via = self.members.values[self.at(clique, via)];
-            self.force_order(trail, edges, clique, first, second, Reason::Through { via })?;
+            let reason = Reason::Through {
+                clique,
+                first,
+                via,
+                second,
+            };
+            self.force_order(trail, edges, clique, first, second, reason)?;
         }
         Ok(())
     }
@@ -289,11 +339,6 @@ impl<'a> Cliques<'a> {
         Ok(())
     }
 
-    /// How long an activity takes, in periods.
-    pub(crate) fn duration(&self, activity: u32) -> i32 {
-        self.instance.durations[activity]
-    }
-
     /// One place runs before another one. Where lags say that it can't, bounds will tell once they have followed.
     pub(crate) fn force_order(
         &self,
@@ -304,9 +349,7 @@ impl<'a> Cliques<'a> {
         second: u32,
         reason: Reason,
     ) -> Result<(), Stop> {
-        let a = self.members.values[self.at(clique, first)];
-        let b = self.members.values[self.at(clique, second)];
-        match edges.precedence(a, b) {
+        match self.precedence(edges, clique, first, second) {
             None | Some(NEVER) => Ok(()),
             Some(order) => trail.force(order, reason),
         }
@@ -423,15 +466,16 @@ impl<'a> Cliques<'a> {
     /// The least start of a member, or with time turned round its greatest end.
     #[inline(always)]
     fn bound(&self, trail: &Trail, clique: u32, place: u32, is_least: bool) -> i32 {
-        let activity = self.members.values[self.at(clique, place)];
+        let Member {
+            activity,
+            at,
+            length,
+        } = self.member(clique, place);
         if is_least {
-            return trail.least(activity);
+            return trail.least(activity).wrapping_add(at);
         }
-        let duration = self.instance.durations[activity];
-        trail
-            .greatest(activity)
-            .wrapping_add(duration)
-            .wrapping_neg()
+        let end = trail.greatest(activity).wrapping_add(at);
+        end.wrapping_add(length).wrapping_neg()
     }
 
     /// When those before a member, seen from the latest on, are done at least; or those after it, seen from the earliest on:
@@ -481,14 +525,18 @@ impl<'a> Cliques<'a> {
         if reached == bound {
             return Ok(());
         }
-        let activity = self.members.values[self.at(clique, place)];
+        let Member {
+            activity,
+            at,
+            length,
+        } = self.member(clique, place);
         if is_least {
             let reason = Reason::Pushed { clique, time };
-            return trail.force(Literal::at_least(activity, reached), reason);
+            let least = reached.wrapping_sub(at);
+            return trail.force(Literal::at_least(activity, least), reason);
         }
         let time = time.wrapping_neg();
-        let duration = self.instance.durations[activity];
-        let latest = reached.wrapping_neg().wrapping_sub(duration);
+        let latest = reached.wrapping_neg().wrapping_sub(length).wrapping_sub(at);
         let reason = Reason::Pushed { clique, time };
         trail.force(Literal::at_most(activity, latest), reason)
     }

@@ -184,9 +184,7 @@ impl EdgeSearch<'_> {
         for _ in 0..early.count_ones() {
             let place = left.trailing_zeros();
             left = left & left.wrapping_sub(1);
-            let at = self.cliques.at(self.clique, place);
-            let activity = self.cliques.members.values[at];
-            if self.cliques.duration(activity) > filled.slack {
+            if self.cliques.member(self.clique, place).length > filled.slack {
                 self.order_all(trail, filled, place, !filled.is_least)?;
             }
         }

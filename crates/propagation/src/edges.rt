@@ -2,7 +2,7 @@
 
 use crate::implied::implied_orders;
 use crate::{Literal, NEVER, Reason, Stop, Trail};
-use instance::{Edge, Instance, Result, Rivals, Rows, Settled, Table, Walks, narrow};
+use instance::{Classes, Edge, Instance, Result, Rivals, Rows, Settled, Table, Walks, narrow};
 
 /// The slot `to` has at least the value of the slot `from` and `weight`: least starts forward over a lag, greatest ones,
 /// negated, backward.
@@ -13,7 +13,7 @@ pub struct Arc {
     pub weight: i32,
 }
 
-/// An arc that holds where a literal does.
+/// An arc that holds where the literal of a class of orders does, or its negation.
 #[derive(Clone, Copy, Default)]
 pub struct Order {
     pub arc: Arc,
@@ -27,6 +27,8 @@ pub struct Edges {
     /// By the slot that they leave.
     pub arcs: Rows<Arc>,
     pub orders: Rows<Order>,
+    /// By order: its edge's number among those of the classes.
+    pub edge_of: Table<u32>,
     /// By slot: the orders that the slot's literal makes hold.
     by_slot: Rows<u32>,
     /// By the slot of an order, after those of bounds: the orders that it implies by lags.
@@ -96,20 +98,22 @@ fn precedences(instance: &Instance, walks: &Walks) -> Result<Table<Option<Litera
 }
 
 impl Edges {
-    /// The arcs of a project and of settled orders, and the orders of pairs that are open.
-    pub fn new(instance: &Instance, settled: &Settled) -> Result<Edges> {
+    /// The arcs of a project and of settled orders, and the classes of those that are open.
+    pub fn new(instance: &Instance, settled: &Settled, classes: &Classes) -> Result<Edges> {
         let alloc = instance.alloc;
         let mut edges = Edges {
             activities: instance.count(),
             arcs: needed(instance, settled)?,
             orders: Rows::new(alloc, Order::default()),
+            edge_of: Table::new(alloc, 0),
             by_slot: Rows::new(alloc, 0),
             implied: Rows::new(alloc, NEVER),
             precedences: precedences(instance, &settled.walks)?,
         };
-        edges.take_orders(instance, &settled.open)?;
+        edges.take_pairs(classes);
+        edges.take_orders(instance, classes)?;
         edges.list_orders(instance)?;
-        edges.implied = implied_orders(instance, settled, &edges)?;
+        edges.implied = implied_orders(instance, settled, classes, &edges)?;
         Ok(edges)
     }
 
@@ -123,20 +127,47 @@ impl Edges {
         Ok(())
     }
 
-    /// Takes both orders of each pair.
-    fn take_orders(&mut self, instance: &Instance, pairs: &[Rivals]) -> Result<()> {
-        let mut orders = Vec::new(instance.alloc);
-        for (variable, Rivals { first, second }) in (self.activities..u32::MAX).zip(pairs) {
-            let before = Literal::at_least(variable, 1);
-            for (from, to, literal) in [(*first, *second, before), (*second, *first, !before)] {
-                self.precedences[instance.place(from, to)] = Some(literal);
-                for arc in arcs_of(Edge::new(from, to, instance.durations[from])) {
+    /// The literal of a class, or its negation.
+    pub(crate) fn side(&self, class: u32, side: u32) -> Literal {
+        Literal::order(
+            class
+                .wrapping_add(self.activities)
+                .wrapping_mul(2)
+                .wrapping_add(side),
+        )
+    }
+
+    /// Takes the literals of the orders of each class.
+    fn take_pairs(&mut self, classes: &Classes) {
+        for class in 0..classes.count() {
+            let before = self.side(class, 0);
+            for Rivals { first, second } in classes.pairs.row(class) {
+                self.set_precedence(*first, *second, before);
+                self.set_precedence(*second, *first, !before);
+            }
+        }
+    }
+
+    /// Takes the arcs of both sides of each class.
+    fn take_orders(&mut self, instance: &Instance, classes: &Classes) -> Result<()> {
+        let (mut orders, mut numbers) = (Vec::new(instance.alloc), Vec::new(instance.alloc));
+        for row in 0..classes.count().wrapping_mul(2) {
+            let literal = self.side(row / 2, row % 2);
+            for number in classes.edges.numbers(row) {
+                for arc in arcs_of(classes.edges.values[number]) {
                     orders.push((arc.from, Order { arc, literal }))?;
+                    numbers.push((arc.from, number))?;
                 }
             }
         }
         self.orders = Rows::by_row(instance.alloc, orders, Order::default())?;
+        self.edge_of = Rows::by_row(instance.alloc, numbers, 0)?.values;
         Ok(())
+    }
+
+    /// One activity runs before another one where a literal holds.
+    fn set_precedence(&mut self, a: u32, b: u32, literal: Literal) {
+        self.precedences[a.wrapping_mul(self.activities).wrapping_add(b)] = Some(literal);
     }
 
     /// The literal by which one activity ends before another one starts; none if it does so by lags.

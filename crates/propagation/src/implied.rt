@@ -1,8 +1,9 @@
 //! Orders that an order of rivals implies by lags: i before j gives a before b where the longest walks from a to i and
-//! from j to b leave b no room before a, `walk(a, i) + p(i) + walk(j, b) + p(b) > 0`. Bounds alone show none of them.
+//! from j to b leave b no room before a, `walk(a, i) + p(i) + walk(j, b) + p(b) > 0`. Bounds alone show none of them. In
+//! place of p(i) stands the delay of a class. Classes whose side holds by more than one edge are not implied.
 
 use crate::{Edges, Literal, NEVER};
-use instance::{Instance, Result, Rivals, Rows, Settled, Table, Walks};
+use instance::{Classes, Edge, Instance, Result, Rivals, Rows, Settled, Table, Walks};
 use std::cmp::Reverse;
 
 /// So many pairs of walks are looked at, and about so many orders are kept: 1,000 activities take .02 s.
@@ -20,8 +21,8 @@ struct End {
 /// A search for the orders that others imply.
 #[derive(Drop)]
 struct ImpliedOrders<'a> {
-    instance: &'a Instance,
     edges: &'a Edges,
+    classes: &'a Classes,
     /// By activity with an open order: walks that lead to it, and walks from it with the duration of the other end, the
     /// greatest first.
     to: Rows<End>,
@@ -31,15 +32,6 @@ struct ImpliedOrders<'a> {
     /// By such a slot: the one that implied it last.
     last: Table<u32>,
     looks: u64,
-}
-
-/// The weight of the longest walk, if none over the start is as long: bounds tell what those say.
-fn walk_beside_start(walks: &Walks, from: u32, to: u32) -> Option<i32> {
-    let weight = walks.longest(from, to)?;
-    let (Some(back), Some(head)) = (walks.longest(from, 0), walks.longest(0, to)) else {
-        return Some(weight);
-    };
-    (weight > back.wrapping_add(head)).then_some(weight)
 }
 
 /// For each activity with an open order the ends of walks to it, or from it, that have one too.
@@ -71,9 +63,9 @@ fn list_ends(
 ) -> Result<()> {
     for activity in 0..instance.count() {
         let (walk, more) = match is_to {
-            true => (walk_beside_start(walks, activity, own), 0),
+            true => (walks.beside_start(activity, own), 0),
             false => (
-                walk_beside_start(walks, own, activity),
+                walks.beside_start(own, activity),
                 instance.durations[activity],
             ),
         };
@@ -87,12 +79,11 @@ fn list_ends(
 }
 
 impl ImpliedOrders<'_> {
-    /// Lists what the order of a literal implies: the first activity runs before the second.
-    fn list(&mut self, own: Literal, first: u32, second: u32) -> Result<()> {
-        let duration = self.instance.durations[first];
-        for number in self.to.numbers(first) {
+    /// Lists what a literal implies by the first edge that holds where it does.
+    fn list(&mut self, own: Literal, edge: Edge) -> Result<()> {
+        for number in self.to.numbers(edge.from) {
             let End { added, activity } = self.to.values[number];
-            let looks = self.list_from(own, activity, added.wrapping_add(duration), second)?;
+            let looks = self.list_from(own, activity, added.wrapping_add(edge.weight), edge.to)?;
             self.looks = self.looks.saturating_add(looks);
             let is_full = self.looks > LOOKS || self.implied.values.count() > KEPT;
             if looks <= 1 || is_full {
@@ -122,7 +113,8 @@ impl ImpliedOrders<'_> {
     /// An order implies another one, which is kept once.
     fn keep(&mut self, own: Literal, order: Literal) -> Result<()> {
         let slot = self.edges.number_of(order.slot);
-        if order != NEVER && order.slot != own.slot && self.last[slot] != own.slot {
+        let is_new = order != NEVER && order.slot != own.slot && self.last[slot] != own.slot;
+        if is_new && !self.classes.is_loose(slot / 2) {
             self.last[slot] = own.slot;
             self.implied.values.push(order)?;
         }
@@ -144,24 +136,24 @@ fn paired(instance: &Instance, pairs: &[Rivals]) -> Result<Table<bool>> {
 pub(crate) fn implied_orders(
     instance: &Instance,
     settled: &Settled,
+    classes: &Classes,
     edges: &Edges,
 ) -> Result<Rows<Literal>> {
     let (alloc, walks) = (instance.alloc, &settled.walks);
     let is_paired = paired(instance, &settled.open)?;
-    let slots = settled.open.len().saturating_mul(2);
+    let slots = classes.count().wrapping_mul(2);
     let mut orders = ImpliedOrders {
-        instance,
         edges,
+        classes,
         to: ends_of_walks(instance, walks, &is_paired, true)?,
         from: ends_of_walks(instance, walks, &is_paired, false)?,
         implied: Rows::new(alloc, NEVER),
-        last: Table::filled(alloc, slots, 0, 0)?,
+        last: Table::filled(alloc, slots as usize, 0, 0)?,
         looks: 0,
     };
-    for (variable, Rivals { first, second }) in (instance.count()..u32::MAX).zip(&settled.open) {
-        let before = Literal::at_least(variable, 1);
-        orders.list(before, *first, *second)?;
-        orders.list(!before, *second, *first)?;
+    for row in 0..slots {
+        let own = edges.side(row / 2, row % 2);
+        orders.list(own, classes.first_edge(row / 2, row % 2))?;
     }
     Ok(orders.implied)
 }

@@ -19,7 +19,7 @@ mod time_table;
 mod trail;
 mod windows;
 
-pub use cliques::Cliques;
+pub use cliques::{Cliques, Seats};
 pub use edges::{Arc, Edges, Order};
 pub use energy::{Energy, part};
 pub use lemmas::Lemmas;

@@ -5,8 +5,8 @@ use std::ops::Not;
 /// A slot has at least this value.
 ///
 /// A variable x has two slots: the value of slot 2x is its least value, that of 2x + 1 its greatest one, negated. So a
-/// slot's value only grows on the way down. Variables are first the starts of the activities, then the orders of pairs
-/// of rivals: 1 if the first of the two ends before the other starts, 0 if the other way round.
+/// slot's value only grows on the way down. Variables are first the starts of the activities, then the classes of orders of
+/// rivals: 1 if the first of each pair ends before the other starts, 0 if the other way round.
 #[derive(Clone, Copy, PartialEq, Eq, PartialOrd, Ord, Hash, Debug, Default)]
 pub struct Literal {
     pub slot: u32,

@@ -12,25 +12,54 @@ pub enum Reason {
     #[default]
     Given,
     /// An arc moved a bound.
-    Arc { arc: u32 },
-    /// The order of two rivals moved a bound.
-    Order { order: u32 },
-    /// The order of two rivals is impossible.
-    Lost { order: u32 },
+    Arc {
+        arc: u32,
+    },
+    /// An edge of a class of orders moved a bound.
+    Order {
+        order: u32,
+    },
+    /// An edge of a class of orders has no room, so its side is lost.
+    Lost {
+        order: u32,
+    },
     /// The reverse has no room beside the order of this slot, by lags.
-    Implied { slot: u32 },
-    /// The first of the two runs before this activity, and this one before the second.
-    Through { via: u32 },
+    Implied {
+        slot: u32,
+    },
+    /// Of three places of a clique the first runs before the one between, and this one before the second.
+    Through {
+        clique: u32,
+        first: u32,
+        via: u32,
+        second: u32,
+    },
     /// There is no room at this time.
-    Full { resource: u32, time: i32 },
+    Full {
+        resource: u32,
+        time: i32,
+    },
     /// Members of a clique that run before it, or after it, push it.
-    Pushed { clique: u32, time: i32 },
+    Pushed {
+        clique: u32,
+        time: i32,
+    },
     /// In the other order members of a clique would have to run from one time to another, and need more time.
-    Edge { clique: u32, from: i32, to: i32 },
+    Edge {
+        clique: u32,
+        from: i32,
+        to: i32,
+    },
     /// From one time to another it would take more of the resource than there is.
-    Energy { resource: u32, from: i32, to: i32 },
+    Energy {
+        resource: u32,
+        from: i32,
+        to: i32,
+    },
     /// All other literals of the lemma at this place are false.
-    Lemma { place: u32 },
+    Lemma {
+        place: u32,
+    },
 }
 
 /// Why no schedule is left.

@@ -5,7 +5,7 @@ use Rattle.lemma_proof.proofs.Loops.{tells_false, granted, third_decides}
 use Rattle.lemma_proof.proofs.clique.run_apart.Goals as goal
 
 pub returns : goal.returns
-returns c = λ exact arcs m. third_decides (iff_false c.are_incompatible.ensures c.if-are_incompatible.false)
+returns c = λ exact arcs m. third_decides (λ _. iff_false c.are_incompatible.ensures c.if-are_incompatible.false)
     (tells_false (c.starts_after_end.ensures exact arcs m) c.if-starts_after_end.false)
     (c.starts_after_end-2.ensures exact arcs m)
 

@@ -25,13 +25,13 @@ returns c = λ arcs m.
     reversed (activity_count c.args.project.now) arcs c.args.matrix.now c.args.arc c.requires.size m
     c.requires.arc.joins.0 c.requires.arc.joins.1 never in
     let ends : Tells true c.is_overload.result
-    (IsOverload c.args.project.now (arcs ++ reverse_of c.args.arc ∷ []) c.args.over.now) =
+    (IsOverload c.args.project.now c.args.lemmas.now (arcs ++ reverse_of c.args.arc ∷ []) c.args.over.now) =
     c.is_overload.ensures true (arcs ++ reverse_of c.args.arc ∷ [])
     (rw over (known_matrix (activity_count c.args.project.now) (arcs ++ reverse_of c.args.arc ∷ [])
     (rows_over (reverse_of c.args.arc) c.args.matrix.now) back)) in (
       λ yes. inr (ends.shown yes),
       λ either. ⊎_elim (λ (i : Implies arcs c.args.arc). absurd (never i))
-          (λ (e : IsOverload c.args.project.now (arcs ++ reverse_of c.args.arc ∷ []) c.args.over.now). ends.only refl e)
+          (λ (e : IsOverload c.args.project.now c.args.lemmas.now (arcs ++ reverse_of c.args.arc ∷ []) c.args.over.now). ends.only refl e)
           either,
     )
 

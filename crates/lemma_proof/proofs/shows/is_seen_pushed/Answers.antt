@@ -43,10 +43,10 @@ returns-clause-pushed c = λ yes own m live.
     rw (rows, sym c.reverse_of-reverse.ensures) c.try_arc.ensures.tried in
     let tells : TellsWhether (activity_count c.args.project.now)
     (entries_of_block (Some (reverse_of c.args.arc)) c.try_arc.new.self) c.is_overload.result
-    (λ arcs. IsOverload c.args.project.now arcs c.args.over.now) =
+    (λ arcs. IsOverload c.args.project.now c.args.lemmas.now arcs c.args.over.now) =
     rw (c.seen-2.ensures, c.reverse_of-reverse.ensures) at c.is_overload.ensures in
     shown_by_trial (activity_count c.args.project.now) x own c.args.block.now.more c.args.arc
-    (λ arcs. IsOverload c.args.project.now arcs c.args.over.now) (ap length rows ∙ c.requires.size)
+    (λ arcs. IsOverload c.args.project.now c.args.lemmas.now arcs c.args.over.now) (ap length rows ∙ c.requires.size)
     c.try_arc.ensures.more c.requires.arc.joins.0 c.requires.arc.joins.1
     (λ f there. let light = c.activity_count.ensures.law.light f there
     in (rw (sym c.requires.size) light.from_activity, rw (sym c.requires.size) light.to_activity))

@@ -13,5 +13,5 @@ ended_arc-requires c = ap (λ (x : Entries). length x.rows) c.seen.ensures ∙ l
 pub returns-in_default-clause-pushed : goal.returns-in_default-clause-pushed
 returns-in_default-clause-pushed c = λ own m live.
     rw c.in_default.is (told_seen (activity_count c.args.project.now) c.args.block.now c.seen.result c.ended_arc.result
-    (λ (all : List Lag) (e : Lag). IsOverload c.args.project.now all c.args.over.now × (e ≡ impossible))
+    (λ (all : List Lag) (e : Lag). IsOverload c.args.project.now c.args.lemmas.now all c.args.over.now × (e ≡ impossible))
     c.requires.size c.activity_count.ensures.law c.seen.ensures c.ended_arc.ensures.told own m live)

@@ -8,7 +8,7 @@ use Rattle.lemma_book.proofs.premises.Premises.add_root.Goals as goal
 
 pub invariant_of-self-in_default : goal.invariant_of-self-in_default
 invariant_of-self-in_default c =
-    let x : PremisesOf = premises_of c.self.inside.project.now c.self.inside.roots.items c.self.inside.lemmas.items in
+    let x : PremisesOf = premises_of c.self.inside.project.now c.self.inside.roots.items c.self.inside.lemmas in
     let light : IsLight (activity_count x.project) c.args.arc = rw (sym c.self.view_is) at c.requires in
     let none : c.self.inside.bench ≡ None = c.in_default.is in
     let cycle : HasPositiveCycle (root_arcs x) = rw none at c.self.invariant.root in
@@ -17,7 +17,7 @@ invariant_of-self-in_default c =
 
 pub invariant_of-self-in-Ok-true : goal.invariant_of-self-in-Ok-true
 invariant_of-self-in-Ok-true c =
-    let x : PremisesOf = premises_of c.self.inside.project.now c.self.inside.roots.items c.self.inside.lemmas.items in
+    let x : PremisesOf = premises_of c.self.inside.project.now c.self.inside.roots.items c.self.inside.lemmas in
     let light : IsLight (activity_count x.project) c.args.arc = rw (sym c.self.view_is) at c.requires in
     let m : IsMatrixOf (activity_count x.project) (root_arcs x) c.in-Some.bench.rows = rw c.in-Some.is at c.self.invariant.root in
     let added = rw (c.in-Ok-true.field-0-test, m.square.0) at c.in-Ok-true.ensures.added in
@@ -25,7 +25,7 @@ invariant_of-self-in-Ok-true c =
 
 pub invariant_of-self-in-Ok-false : goal.invariant_of-self-in-Ok-false
 invariant_of-self-in-Ok-false c =
-    let x : PremisesOf = premises_of c.self.inside.project.now c.self.inside.roots.items c.self.inside.lemmas.items in
+    let x : PremisesOf = premises_of c.self.inside.project.now c.self.inside.roots.items c.self.inside.lemmas in
     let light : IsLight (activity_count x.project) c.args.arc = rw (sym c.self.view_is) at c.requires in
     let m : IsMatrixOf (activity_count x.project) (root_arcs x) c.in-Some.bench.rows = rw c.in-Some.is at c.self.invariant.root in
     let added = rw (c.in-Ok-false.field-0-test, m.square.0) at c.in-Ok-false.ensures.added in

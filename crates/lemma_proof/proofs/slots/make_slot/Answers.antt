@@ -1,9 +1,9 @@
 use Rattle.std.proofs.Common.{◌≡◌, ⊎_elim, not, ◌<◌, ap, ◌∙◌, arith, ◌+◌, ◌-◌, ◌≤◌, ◌++◌, ◌∷◌, [], List, length, replicate, Option, None, ℕ}
 use Rattle.std.proofs.lemmas.Bool.{cases_lt}
 use Rattle.network.specs.declared.parts.Lag.{Lag}
-use Rattle.lemma_proof.specs.Lines.{Slots}
-use Rattle.lemma_book.proofs.Slotted.{made_more}
-use Rattle.lemma_book.proofs.slots.make_slot.Goals as goal
+use Rattle.lemma_proof.specs.Slots.{Slots}
+use Rattle.lemma_proof.proofs.Slotted.{made_more}
+use Rattle.lemma_proof.proofs.slots.make_slot.Goals as goal
 
 pub loop-preserved : goal.loop-preserved
 loop-preserved c = record {

@@ -1,5 +1,5 @@
 use Rattle.std.proofs.Common.{◌≡◌, ◌≤◌, ◌+◌, ◌-◌, ◌++◌, length, replicate, None}
-use Rattle.lemma_book.proofs.slots.make_slot.Given as goal
+use Rattle.lemma_proof.proofs.slots.make_slot.Given as goal
 
 abbrev pub invariant-loop : goal.invariant-loop
 invariant-loop l = record {

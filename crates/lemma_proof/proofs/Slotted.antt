@@ -5,8 +5,7 @@ use Rattle.std.proofs.lemmas.Bool.{cases_eq}
 use Rattle.std.proofs.lemmas.List.{get_or-replicate, get_or-set_other, get_or-set_same, length-replicate, length-set, replicate-append-replicate}
 use Rattle.std.proofs.lemmas.Option.{get_or_from_slice_get, slice_get-get_or, slice_get_within}
 use Rattle.network.specs.declared.parts.Lag.{Lag}
-use Rattle.lemma_proof.specs.Lines.{IsIn, Slots}
-use Rattle.lemma_book.specs.Ledger.{IsFilled, with_slot}
+use Rattle.lemma_proof.specs.Slots.{IsFilled, IsIn, Slots, with_slot}
 
 none_there : (n k : ℕ) (lemma : List Lag) → ¬ IsIn (replicate n None) k lemma
 none_there n k lemma found =
@@ -27,10 +26,11 @@ in_more (x ∷ lemmas) n (suc k) lemma found = in_more lemmas n k lemma found
 pub in_with_slot : (lemmas : Slots) (slot k : ℕ) (lemma : List Lag) → IsIn (with_slot lemmas slot) k lemma → IsIn lemmas k lemma
 in_with_slot lemmas slot k lemma found = in_more lemmas (slot + 1 - length lemmas) k lemma found
 
--- a lemma that is in a list of which one slot was set is in that slot, or was there
-pub in_set : (lemmas : Slots) (slot k : ℕ) (x : Option (List Lag)) (lemma : List Lag)
-    → IsIn (slice_set lemmas slot x) k lemma → (x ≡ Some lemma) ⊎ IsIn lemmas k lemma
-in_set lemmas slot k x lemma found =
+-- a lemma that is in a list of which one slot was set is in that slot, or was there in another one
+pub in_set_at : (lemmas : Slots) (slot k : ℕ) (x : Option (List Lag)) (lemma : List Lag)
+    → IsIn (slice_set lemmas slot x) k lemma
+    → ((k ≡ slot) × (x ≡ Some lemma)) ⊎ ((k ≢ slot) × IsIn lemmas k lemma)
+in_set_at lemmas slot k x lemma found =
     let lt : k < length (set lemmas slot x) = slice_get_within (set lemmas slot x) k (Some lemma) found in
     let is : get_or (set lemmas slot x) k None ≡ Some lemma = get_or_from_slice_get (set lemmas slot x) k (Some lemma) None found in
     ⊎_elim
@@ -38,12 +38,20 @@ in_set lemmas slot k x lemma found =
     let long : length (set lemmas slot x) ≡ length lemmas = length-set lemmas slot x in
     let low : slot < length lemmas = omega (arith, lt, long, same) in
     let here : get_or (set lemmas slot x) slot None ≡ Some lemma = subst (λ (i : ℕ). get_or (set lemmas slot x) i None ≡ Some lemma) same is in
-    inl (sym (get_or-set_same lemmas slot x None low) ∙ here))
+    inl (same, sym (get_or-set_same lemmas slot x None low) ∙ here))
     (λ (other : k ≡ slot → ⊥).
     let old : get_or lemmas k None ≡ Some lemma = sym (get_or-set_other lemmas slot k x None other) ∙ is in
     let long : length (set lemmas slot x) ≡ length lemmas = length-set lemmas slot x in
-    inr (slice_get-get_or lemmas k None (omega (arith, lt, long)) ∙ ap Some old))
+    inr (other, slice_get-get_or lemmas k None (omega (arith, lt, long)) ∙ ap Some old))
     (cases_eq k slot)
+
+pub in_set : (lemmas : Slots) (slot k : ℕ) (x : Option (List Lag)) (lemma : List Lag)
+    → IsIn (slice_set lemmas slot x) k lemma → (x ≡ Some lemma) ⊎ IsIn lemmas k lemma
+in_set lemmas slot k x lemma found =
+    ⊎_elim
+    (λ (here : (k ≡ slot) × (x ≡ Some lemma)). inl here.1)
+    (λ (old : (k ≢ slot) × IsIn lemmas k lemma). inr old.1)
+    (in_set_at lemmas slot k x lemma found)
 
 -- ---- empty slots more
 
