@@ -189,6 +189,16 @@ class Tables(InFolder):
         self.assertEqual(held, ["held: the project starts then", "held: 1 of crane, until then in use: 1 (a)",
                                 "held: 3 (c) starts no sooner than 2 (b) ends"])
 
+    def test_group_that_holds_another(self) -> None:
+        """By hand: a hoist takes rack A away from 3 to 5, so the group of rack B, which it brings then, starts 5 later."""
+        rows = "".join(f"bring {rack},2,1,,,\ndip {rack},1,,bring {rack},0,0\ntake {rack},2,1,dip {rack},0,0\n"
+                       for rack in "AB")
+        table = self.file("p.csv", f"activity,minutes,hoist (1),after,at least,at most\n{rows}")
+        answer, out = self.file("p.starts", "0 0\n1 0\n2 2\n3 3\n4 5\n5 7\n6 8\n7 10\n"), self.folder / "p.html"
+        self.assertEqual(plan("report", table, answer, "--out", out).returncode, 0)
+        held = re.findall('"held: ([^"]* later, [^"]*)"', out.read_text())
+        self.assertEqual(held, ["1 (bring A) before 4 (bring B): 5 minutes later, for hoist"])
+
     def test_columns(self) -> None:
         """None is empty: what nobody needs, and what nothing is due by, has none."""
         answer, out = self.file("a.csv", "name,start\na,0\nb,3\n"), self.folder / "p.html"

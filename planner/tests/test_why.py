@@ -150,3 +150,15 @@ Without this lag there is a schedule of 7: 3 (roof) ends by 2026-03-09.
             ran = plan("why", EXAMPLES / "building-site.sch", "--seconds", "1",
                        psprove=self.program("slow", "exec sleep 9"))
         self.assertEqual((ran.returncode, ran.stdout[:10]), (3, "Not known:"))
+
+    def test_groups(self) -> None:
+        """By hand: a hoist brings a rack in 2 minutes, comes back a minute later, and takes it away in 2. There is no
+        time for it to bring the other one in between, so that starts 5 later, and both take 10."""
+        rows = "".join(f"bring {rack},2,1,,,\ndip {rack},1,,bring {rack},0,0\ntake {rack},2,1,dip {rack},0,0\n"
+                       for rack in "AB")
+        ran = plan("why", self.file("racks.csv", f"activity,minutes,hoist (1),after,at least,at most\n{rows}"),
+                   "--within", 9)
+        self.assertEqual((ran.returncode, ran.stderr), (0, ""))
+        self.assertIn("\nSome of these may not wait, so which is first says how much later the other one starts:\n"
+                      "  1 (bring A) before 4 (bring B): 5 minutes later, for hoist\n"
+                      "  4 (bring B) before 1 (bring A): 5 minutes later, for hoist\n", ran.stdout)

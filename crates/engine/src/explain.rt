@@ -52,6 +52,7 @@ impl Engine<'_> {
                 self.explain_energy(NEVER, Overload { resource, from, to }, now)
             }
             Conflict::Clique { clique, from, to } => self.explain_clique(clique, from, to),
+            Conflict::Tour => self.explain_tour(),
             Conflict::Lemma { place } => {
                 self.lemmas.touch(place);
                 self.explain_lemma(place, 0)

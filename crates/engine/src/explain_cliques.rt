@@ -1,9 +1,9 @@
 //! Explanations by members of a clique that have to run from one time to another.
 
 use crate::LineReason;
-use crate::log::Late;
+use crate::member_sets::Apart;
 use crate::state::Engine;
-use instance::{Member, Result};
+use instance::{Late, Member, Result};
 use propagation::Literal;
 
 /// A member of a clique that others push.
@@ -143,12 +143,21 @@ impl Engine<'_> {
                 },
             })?;
         }
-        self.clique_reason(&members, &orders, None, (from, to))
+        self.clique_reason(pushed.clique, &members, &orders, None, (from, to))
     }
 
-    /// The reason of a record's line, by members. One alone pushes by its arc.
+    /// What the members of a clique are.
+    fn kind_of(&self, clique: u32) -> Apart {
+        match self.cliques.has_intervals(clique) {
+            true => Apart::Intervals,
+            false => Apart::Activities,
+        }
+    }
+
+    /// The reason of a record's line, by members of a clique. One alone pushes by its arc.
     fn clique_reason(
         &mut self,
+        clique: u32,
         members: &[Member],
         orders: &[Late],
         shown: Option<Late>,
@@ -157,7 +166,8 @@ impl Engine<'_> {
         if members.len() < 2 && !self.log.needs_any(orders) {
             return Ok(LineReason::Arcs);
         }
-        let set = self.log.set(members, orders, shown)?;
+        let kind = self.kind_of(clique);
+        let set = self.log.set(kind, members, orders, shown)?;
         Ok(LineReason::Clique { set, from, to })
     }
 
@@ -201,7 +211,7 @@ impl Engine<'_> {
         let from = from.wrapping_sub(spare).max(0);
         self.find_inside(clique, from, to)?;
         let members = self.needed_members(clique)?;
-        self.clique_reason(&members, &[], None, (from, to))
+        self.clique_reason(clique, &members, &[], None, (from, to))
     }
 
     /// Lists the places of members of a clique that ran from one time to another as of an event, beside two of which the
@@ -276,7 +286,8 @@ impl Engine<'_> {
         self.marks.activities.items.sort_unstable();
         let [first, second] = places.map(|place: u32| self.cliques.member(clique, place));
         let members = self.needed_members(clique)?;
-        self.clique_reason(&members, &[], Some(Late { first, second }), (from, to))
+        let shown = Some(Late { first, second });
+        self.clique_reason(clique, &members, &[], shown, (from, to))
     }
 
     /// Of three places of a clique the first runs before the one between, and this one before the second.
@@ -306,7 +317,8 @@ impl Engine<'_> {
         if !self.log.is_delayed(order) && !self.log.needs_any(&orders) {
             return Ok(LineReason::Arcs);
         }
-        let set = self.log.set(&[], &orders, Some(Late { first, second }))?;
+        let (kind, shown) = (self.kind_of(clique), Some(Late { first, second }));
+        let set = self.log.set(kind, &[], &orders, shown)?;
         Ok(LineReason::Clique {
             set,
             from: 0,

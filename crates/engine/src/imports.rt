@@ -1,7 +1,7 @@
 //! What other searches have proved.
 
 use crate::state::Engine;
-use instance::{Edge, Result, narrow, reverse};
+use instance::{Edge, Result, clip, narrow, reverse};
 use network::Lag;
 use propagation::{Conflict, Literal, NEVER, Reason, Stop};
 use std::mem;
@@ -24,8 +24,7 @@ const PATIENCE: u64 = 500;
 
 /// The edge of an arc of a record.
 pub(crate) fn edge_of(arc: Lag) -> Edge {
-    let weight = arc.weight.clamp(i64::from(i32::MIN), i64::from(i32::MAX)) as i32;
-    Edge::new(narrow(arc.from), narrow(arc.to), weight)
+    Edge::new(narrow(arc.from), narrow(arc.to), clip(arc.weight))
 }
 
 impl Engine<'_> {

@@ -1,11 +1,11 @@
 //! The log of a proof.
 
-use instance::{Classes, Edge, Instance, Member, Result, Rivals, Rows, Shown, Table, reverse};
+use crate::member_sets::{Apart, MemberSets};
+use instance::{Classes, Edge, Instance, Late, Member, Result, Rivals, Shown, Table, reverse};
 use lemma_log::{Event, Lines};
 use lemma_proof::{Lags, Line, WindowOverload};
 use network::{Lag, Pair};
 use propagation::{Literal, NEVER};
-use record_text::Members;
 use std::collections::{BTreeSet, HashMap};
 use std::mem;
 
@@ -20,8 +20,9 @@ pub enum LineReason {
     Use { lemma: u32 },
     /// What must run from one time to another needs too much of a resource.
     Load { resource: u32, from: i32, to: i32 },
-    /// The members of a clique, a set that the log keeps, need more time than there is from one time to another; or they
-    /// would, in the other order of two of them, which the set names. Of fewer than two members their orders alone say it.
+    /// The members of a clique or a machine, a set that the log keeps, need more time than there is from one time to another;
+    /// or they would, in the other order of two of them, which the set names. Of fewer than two members their orders alone
+    /// say it.
     Clique { set: u32, from: i32, to: i32 },
 }
 
@@ -30,23 +31,6 @@ pub enum LineReason {
 pub struct Inference {
     pub literal: Literal,
     pub reason: LineReason,
-}
-
-/// Two members of a clique, of which the second does not end before the first begins.
-#[derive(Clone, Copy, PartialEq, Eq, Hash, Debug)]
-pub(crate) struct Late {
-    pub(crate) first: Member,
-    pub(crate) second: Member,
-}
-
-impl Late {
-    /// The edge that says so.
-    fn edge(self) -> Edge {
-        let Late { first, second } = self;
-        let end = second.at.wrapping_add(second.length);
-        let weight = first.at.wrapping_sub(end).wrapping_add(1);
-        Edge::new(first.activity, second.activity, weight)
-    }
 }
 
 /// No lemma has this number.
@@ -84,13 +68,12 @@ pub struct Log<'a> {
     further: Table<u32>,
     /// By two members: the lemma that a side of their class holds where they stand so, if no walk says it.
     late: HashMap<Late, u32>,
+    /// By two anchors: the lemma that the second one starts so long after the first where a side of their class holds.
+    delays: HashMap<(u32, u32), u32>,
     /// Whether events are kept.
     pub is_kept: bool,
     told: Vec<LoggedEvent>,
-    /// Sets of members of cliques, lemmas that each needs before, and the two of which it shows an order.
-    sets: Rows<Member>,
-    uses: Rows<u32>,
-    shown: Table<Option<Late>>,
+    sets: MemberSets,
     slots: Slots,
     /// The numbers of lemmas in use, and of those that this search does without, and another one may not.
     used: BTreeSet<u32>,
@@ -133,11 +116,10 @@ impl<'a> Log<'a> {
             either: Table::new(alloc, NO_LEMMA),
             further: Table::new(alloc, NO_LEMMA),
             late: HashMap::new(alloc),
+            delays: HashMap::new(alloc),
             is_kept,
             told: Vec::new(alloc),
-            sets: Rows::new(alloc, Member::default()),
-            uses: Rows::new(alloc, 0),
-            shown: Table::new(alloc, None),
+            sets: MemberSets::new(alloc),
             slots,
             used: BTreeSet::new(alloc),
             forgotten: BTreeSet::new(alloc),
@@ -233,18 +215,14 @@ impl<'a> Log<'a> {
         set: u32,
         (from, to): (i32, i32),
     ) -> Result<()> {
-        for lemma in self.uses.row(set) {
+        for lemma in self.sets.uses(set) {
             lines.push(Line::Use(*lemma as usize))?;
         }
-        if self.sets.row(set).len() < 2 {
+        if self.sets.len(set) < 2 {
             return Ok(());
         }
-        let over = WindowOverload::Clique {
-            from: i64::from(from),
-            to: i64::from(to),
-            members: self.members(set)?,
-        };
-        let arc = match self.shown[set] {
+        let over = self.sets.overload(set, from, to)?;
+        let arc = match self.sets.shown(set) {
             // What contradicts the literal is there already, unless that takes a lemma.
             Some(late) if literal == NEVER && self.lemma_of(late).is_none() => None,
             Some(late) => Some(lag(late.edge())),
@@ -257,9 +235,10 @@ impl<'a> Log<'a> {
     /// The lemma by which a side of a class holds where what a reason shows of two members does, if no walk says it.
     fn lemma_of_shown(&self, reason: LineReason) -> Option<u32> {
         match reason {
-            LineReason::Clique { set, .. } => self.shown[set].and_then(|late: Late| self.lemma_of(
-                late,
-            )),
+            LineReason::Clique { set, .. } => self
+                .sets
+                .shown(set)
+                .and_then(|late: Late| self.lemma_of(late)),
             _ => None,
         }
     }
@@ -299,15 +278,6 @@ impl<'a> Log<'a> {
     pub(crate) fn is_delayed(&self, literal: Literal) -> bool {
         self.side_of(literal)
             .is_some_and(|(class, _)| self.either[class] != NO_LEMMA)
-    }
-
-    /// The members of a set of a clique.
-    fn members(&self, set: u32) -> Result<Members> {
-        let mut members = Vec::new(self.instance.alloc);
-        for member in self.sets.row(set) {
-            members.push(member.activity as usize)?;
-        }
-        Ok(Members::new(members))
     }
 
     /// Tells a lemma with its lines.
@@ -392,11 +362,13 @@ impl<'a> Log<'a> {
         match lemma.shown {
             Shown::Either { class } => self.either[class] = number,
             Shown::Further { edge } => self.further[edge] = number,
-            Shown::Pair { first, second } => {
-                let first = Member::of(self.instance, first);
-                let second = Member::of(self.instance, second);
-                self.late.insert(Late { first, second }, number)?;
+            Shown::Late(late) => {
+                self.late.insert(late, number)?;
             }
+            Shown::Delay { from, to } => {
+                self.delays.insert((from, to), number)?;
+            }
+            Shown::Apart => {}
         }
         self.tell(number, OWN, arcs, lines)
     }
@@ -491,33 +463,48 @@ impl<'a> Log<'a> {
         Ok(())
     }
 
-    /// Keeps a set of members of a clique, which rise, until the events are handed on, with the orders of members that it
-    /// needs, each as it is not, and the one that it shows. Gives its number.
+    /// Keeps a set of members of a clique or a machine, which rise, until the events are handed on, with the orders of members
+    /// that it needs, each as it is not, and the one that it shows. Gives its number.
     pub(crate) fn set(
         &mut self,
+        kind: Apart,
         members: &[Member],
         orders: &[Late],
         shown: Option<Late>,
     ) -> Result<u32> {
-        if self.is_kept {
-            self.sets.push_row(members)?;
-            self.shown.push(shown)?;
-            for late in orders {
-                if let Some(lemma) = self.lemma_of(*late) {
-                    self.uses.values.push(lemma)?;
-                }
-            }
-            self.uses.close()?;
+        let lemmas = orders.iter().filter_map(|late: &Late| self.lemma_of(*late));
+        let uses: Vec<u32> = lemmas.collect(self.instance.alloc)?;
+        self.keep(kind, members, &uses, shown)
+    }
+
+    /// Keeps a set of intervals of groups, which rise, until the events are handed on, with the delays of anchors that it
+    /// needs. Gives its number.
+    pub(crate) fn tour(&mut self, members: &[Member], delays: &[(u32, u32)]) -> Result<u32> {
+        let lemmas = delays
+            .iter()
+            .filter_map(|anchors| self.delays.get(anchors).copied());
+        let uses: Vec<u32> = lemmas.collect(self.instance.alloc)?;
+        self.keep(Apart::Intervals, members, &uses, None)
+    }
+
+    /// Keeps a set, if events are kept. Gives its number.
+    fn keep(
+        &mut self,
+        kind: Apart,
+        members: &[Member],
+        uses: &[u32],
+        shown: Option<Late>,
+    ) -> Result<u32> {
+        match self.is_kept {
+            true => self.sets.push(kind, members, uses, shown),
+            false => Ok(0),
         }
-        Ok(self.sets.count().wrapping_sub(1))
     }
 
     /// Hands on the events.
     pub fn take(&mut self) -> Vec<LoggedEvent> {
         let alloc = self.instance.alloc;
-        self.sets = Rows::new(alloc, Member::default());
-        self.uses = Rows::new(alloc, 0);
-        self.shown.items.clear();
+        self.sets = MemberSets::new(alloc);
         mem::replace(&mut self.told, Vec::new(alloc))
     }
 }

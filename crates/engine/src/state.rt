@@ -6,10 +6,9 @@ use crate::marks::Marks;
 use crate::search::conflict_of;
 use crate::{LineReason, Log, Slots};
 use instance::{
-    Classes, Edge, Groups, Instance, Result, Rows, Settled, Table, Walks, greedy_cliques, settle,
-    start_sequence,
+    Classes, Edge, Instance, Model, Result, Settled, Table, Walks, settle, start_sequence,
 };
-use propagation::{Cliques, Edges, Energy, Lemmas, Literal, Stop, TimeTable, Trail};
+use propagation::{Cliques, Edges, Energy, Lemmas, Literal, Stop, TimeTable, Tours, Trail};
 
 /// What a search is made with.
 #[derive(Clone, Copy)]
@@ -37,7 +36,7 @@ pub struct SearchCounts {
     pub events: u64,
 }
 
-/// So many steps of a look at energy take about as long as an event.
+/// So many steps of a look at energy, or at tours, take about as long as an event.
 const STEPS: u64 = 200;
 
 /// The first reduction of the store comes after so many conflicts.
@@ -53,6 +52,8 @@ pub struct Engine<'a> {
     pub(crate) edges: Edges,
     pub(crate) table: TimeTable<'a>,
     pub(crate) cliques: Cliques<'a>,
+    /// Where groups run one after the other, and that says more than cliques do.
+    pub(crate) tours: Option<Tours>,
     pub(crate) energy: Energy<'a>,
     pub(crate) lemmas: Lemmas,
     /// What others have proved and it has not looked at yet, and the count of conflicts when it did so last.
@@ -137,26 +138,12 @@ fn shared_resources(instance: &Instance, settled: &Settled) -> Result<Vec<u32>> 
     Ok(shared)
 }
 
-/// The classes of open orders. A search for any schedule goes without groups.
-fn classes_of(instance: &Instance, settled: &Settled, is_thorough: bool) -> Result<Classes> {
+/// What a search decides on. One for any schedule goes without groups and cliques.
+fn model_of(instance: &Instance, settled: &Settled, is_thorough: bool) -> Result<Model> {
     match is_thorough {
-        true => Groups::new(instance, &settled.walks)?.classes(instance, settled),
-        false => Classes::of_pairs(instance, &settled.open),
+        true => Model::new(instance, settled),
+        false => Model::plain(instance, settled),
     }
-}
-
-/// The cliques of a project that a search looks at.
-fn cliques_of<'a>(
-    instance: &'a Instance,
-    settled: &Settled,
-    edges: &Edges,
-    is_thorough: bool,
-) -> Result<Cliques<'a>> {
-    let found = match is_thorough {
-        true => greedy_cliques(instance, &settled.walks)?,
-        false => Rows::new(instance.alloc, 0),
-    };
-    Cliques::new(instance, edges, &found)
 }
 
 /// The choices of a search that has tried nothing yet.
@@ -178,6 +165,7 @@ struct Propagators<'a> {
     edges: Edges,
     table: TimeTable<'a>,
     cliques: Cliques<'a>,
+    tours: Option<Tours>,
     energy: Energy<'a>,
 }
 
@@ -185,21 +173,27 @@ struct Propagators<'a> {
 fn propagators_of<'a>(
     instance: &'a Instance,
     settled: &Settled,
-    classes: &Classes,
+    model: &Model,
     resources: &[u32],
     options: Options,
 ) -> Result<Propagators<'a>> {
-    let edges = Edges::new(instance, settled, classes)?;
-    let cliques = cliques_of(instance, settled, &edges, options.is_thorough)?;
+    let edges = Edges::new(instance, settled, &model.classes)?;
+    let machine = model.machine.as_ref();
+    let cliques = Cliques::new(instance, &edges, &model.cliques, machine)?;
+    let tours = match machine {
+        Some(machine) => Some(Tours::new(instance, &edges, machine)?),
+        None => None,
+    };
     let table = TimeTable::new(instance, resources)?;
     let looked_at = if options.is_thorough { resources } else { &[] };
     let energy = Energy::new(instance, looked_at)?;
-    let values = first_values(instance, settled, classes, options.most)?;
+    let values = first_values(instance, settled, &model.classes, options.most)?;
     Ok(Propagators {
         trail: Trail::new(instance.alloc, values)?,
         edges,
         table,
         cliques,
+        tours,
         energy,
     })
 }
@@ -235,9 +229,10 @@ impl<'a> Engine<'a> {
     pub fn open(instance: &'a Instance, walks: Walks, options: Options) -> Result<Engine<'a>> {
         let settled = settle(instance, walks, options.most)?;
         let resources = shared_resources(instance, &settled)?;
-        let classes = classes_of(instance, &settled, options.is_thorough)?;
-        let propagators = propagators_of(instance, &settled, &classes, &resources, options)?;
+        let model = model_of(instance, &settled, options.is_thorough)?;
+        let propagators = propagators_of(instance, &settled, &model, &resources, options)?;
         let (trail, only_orders) = (&propagators.trail, resources.is_empty());
+        let classes = model.classes;
         let learning = learning_of(instance, &settled, classes, trail, only_orders, options)?;
         let Settled {
             walks,
@@ -279,6 +274,7 @@ impl<'a> Engine<'a> {
             edges,
             table,
             cliques,
+            tours,
             energy,
         } = propagators;
         let Learning {
@@ -293,6 +289,7 @@ impl<'a> Engine<'a> {
             edges,
             table,
             cliques,
+            tours,
             energy,
             lemmas,
             imports: Vec::new(instance.alloc),
@@ -362,6 +359,9 @@ impl<'a> Engine<'a> {
             if self.queue >= self.trail.count() {
                 self.cliques.find_edges(&mut self.trail, &self.edges)?;
             }
+            if self.queue >= self.trail.count() {
+                self.look_at_tours()?;
+            }
             // Energy helps to refute. A neighbourhood is to find, soon.
             if self.queue >= self.trail.count() && !self.is_neighbourhood() {
                 self.energy.run(&mut self.trail)?;
@@ -373,6 +373,14 @@ impl<'a> Engine<'a> {
         Ok(())
     }
 
+    /// Whether groups that run one after the other can end in time.
+    fn look_at_tours(&mut self) -> Result<(), Stop> {
+        match &mut self.tours {
+            Some(tours) => tours.look(&self.trail),
+            None => Ok(()),
+        }
+    }
+
     /// Whether several decisions that are no path stand on the first level, as those of a neighbourhood do.
     fn is_neighbourhood(&self) -> bool {
         self.floor > 0 && !self.has_path
@@ -380,7 +388,9 @@ impl<'a> Engine<'a> {
 
     /// What was done so far, in events: the cost of a strategy.
     pub fn effort(&self) -> u64 {
-        self.counts.events.wrapping_add(self.energy.steps / STEPS)
+        let tours = self.tours.as_ref().map_or(0, |tours| tours.steps);
+        let steps = self.energy.steps.wrapping_add(tours);
+        self.counts.events.wrapping_add(steps / STEPS)
     }
 
     /// A level begins: a choice, or the first decisions, of which no two contradict each other.
@@ -407,6 +417,9 @@ impl<'a> Engine<'a> {
         self.table_marks.truncate(level);
         self.cliques.go_back(begin);
         self.energy.go_back(begin);
+        if let Some(tours) = &mut self.tours {
+            tours.go_back(begin);
+        }
         self.choices.go_back(&self.trail, level)?;
         self.queue = begin;
         Ok(())

@@ -1,18 +1,23 @@
 //! Classes of orders: orders of rivals that follow from each other, so that one literal says them all.
 
+use crate::member::Late;
 use crate::numbers::{Edge, Instance};
 use crate::orders::Rivals;
 use crate::{Result, Rows};
 
-/// What orders that are forced one after the other show of a class: not both edges of a lemma hold.
+/// What orders that are forced one after the other show of classes: not both edges of a lemma hold.
 #[derive(Clone, Copy, PartialEq, Eq, Debug)]
 pub enum Shown {
     /// One of the first edges of the class holds.
     Either { class: u32 },
     /// The edge of this number holds where its side of the class does.
     Further { edge: u32 },
-    /// A side of the class holds where the second of a pair of its does not end before the first starts.
-    Pair { first: u32, second: u32 },
+    /// A side of a class holds where two members stand so.
+    Late(Late),
+    /// The second anchor starts so long after the first one where a side of their class holds.
+    Delay { from: u32, to: u32 },
+    /// One of the delays of two anchors holds.
+    Apart,
 }
 
 /// Not both of these edges hold.
@@ -72,6 +77,19 @@ impl Classes {
             classes.push_pair(instance, *pair)?;
         }
         Ok(classes)
+    }
+
+    /// Takes lemmas with what shows them.
+    pub(crate) fn push_lemmas(
+        &mut self,
+        lemmas: &[DelayLemma],
+        proofs: &Rows<Rivals>,
+    ) -> Result<()> {
+        for (lemma, number) in lemmas.iter().zip(0..u32::MAX) {
+            self.lemmas.push(*lemma)?;
+            self.proofs.push_row(proofs.row(number))?;
+        }
+        Ok(())
     }
 
     /// A class of one order, without delays.

@@ -7,7 +7,6 @@ use crate::orders::{Rivals, Settled};
 use crate::two_groups::TwoGroups;
 use crate::walks::Walks;
 use crate::{Result, Rows, Table, narrow};
-use std::mem;
 
 /// Two groups of more activities than this are not looked at.
 const MOST: usize = 100;
@@ -17,10 +16,18 @@ const BUDGET: u64 = 50_000_000;
 
 /// The groups of a project.
 #[derive(Drop)]
-pub struct Groups {
-    pub members: Rows<u32>,
+pub(crate) struct Groups {
+    pub(crate) members: Rows<u32>,
     /// By activity.
     group_of: Table<u32>,
+}
+
+/// An open pair of activities of two groups.
+#[derive(Clone, Copy, PartialEq, Eq, PartialOrd, Ord)]
+pub(crate) struct Joint {
+    one: u32,
+    other: u32,
+    pair: Rivals,
 }
 
 /// The mean of the durations of those that take time.
@@ -67,7 +74,7 @@ fn names_of(instance: &Instance, walks: &Walks) -> Result<Table<u32>> {
 
 impl Groups {
     /// The groups of a project: ties leave play up to a mean duration.
-    pub fn new(instance: &Instance, walks: &Walks) -> Result<Groups> {
+    pub(crate) fn new(instance: &Instance, walks: &Walks) -> Result<Groups> {
         let (alloc, names) = (instance.alloc, names_of(instance, walks)?);
         let mut group_of = Table::filled(alloc, instance.count() as usize, 0, 0)?;
         let (mut placed, mut count) = (Vec::new(alloc), 0u32);
@@ -88,33 +95,37 @@ impl Groups {
     }
 
     /// The group of an activity.
-    pub fn group(&self, activity: u32) -> u32 {
+    pub(crate) fn group(&self, activity: u32) -> u32 {
         self.group_of[activity]
     }
 
-    /// The pairs of activities of two groups, by these, the first activity in the first group; those of groups of one
-    /// activity each are left out.
-    fn joint(&self, instance: &Instance, pairs: &[Rivals]) -> Result<Vec<(u32, u32, Rivals)>> {
+    /// How many activities two groups have.
+    fn size(&self, groups: [u32; 2]) -> usize {
+        let [one, other] = groups.map(|group: u32| self.members.row(group).len());
+        one.wrapping_add(other)
+    }
+
+    /// The open pairs of activities of two groups, by these, the first activity in the first group.
+    pub(crate) fn joint(&self, instance: &Instance, pairs: &[Rivals]) -> Result<Vec<Joint>> {
         let mut joint = Vec::new(instance.alloc);
         for pair in pairs {
             let Rivals { first, second } = *pair;
             let (one, other) = (self.group(first), self.group(second));
-            let count = self
-                .members
-                .row(one)
-                .len()
-                .wrapping_add(self.members.row(other).len());
-            if one != other && 2 < count && count <= MOST {
+            if one != other && self.size([one, other]) <= MOST {
                 joint.push(match one < other {
-                    true => (one, other, *pair),
-                    false => (
-                        other,
+                    true => Joint {
                         one,
-                        Rivals {
+                        other,
+                        pair: *pair,
+                    },
+                    false => Joint {
+                        one: other,
+                        other: one,
+                        pair: Rivals {
                             first: second,
                             second: first,
                         },
-                    ),
+                    },
                 })?;
             }
         }
@@ -122,52 +133,49 @@ impl Groups {
         Ok(joint)
     }
 
-    /// Adds the classes of some pairs of two groups.
-    fn add_classes(
+    /// Two groups, with the open pairs between them.
+    pub(crate) fn two<'a>(
         &self,
-        instance: &Instance,
-        walks: &Walks,
-        classes: &mut Classes,
-        groups: (u32, u32),
-        pairs: &[Rivals],
-        steps: u64,
-    ) -> Result<u64> {
-        let members = [self.members.row(groups.0), self.members.row(groups.1)];
-        let two = TwoGroups::new(instance, walks, members, pairs)?;
-        two.add_classes(classes, steps)
+        instance: &'a Instance,
+        settled: &Settled,
+        joint: &[Joint],
+        groups: [u32; 2],
+    ) -> Result<TwoGroups<'a>> {
+        let [one, other] = [groups[0].min(groups[1]), groups[0].max(groups[1])];
+        let begin = joint.partition_point(|entry| (entry.one, entry.other) < (one, other));
+        let pairs: Vec<Rivals> = joint
+            .get(begin..)
+            .unwrap_or_default()
+            .iter()
+            .take_while(|entry| (entry.one, entry.other) == (one, other))
+            .map(|entry| entry.pair)
+            .collect(instance.alloc)?;
+        let members = [self.members.row(one), self.members.row(other)];
+        TwoGroups::new(instance, &settled.walks, members, &pairs)
     }
 
-    /// The classes of open orders that are more than an order.
-    fn merged(&self, instance: &Instance, settled: &Settled) -> Result<Classes> {
-        let (mut classes, mut steps) = (Classes::new(instance), BUDGET);
-        let (joint, mut pairs) = (
-            self.joint(instance, &settled.open)?,
-            Vec::new(instance.alloc),
-        );
-        for (number, (one, other, pair)) in joint.iter().enumerate() {
-            pairs.push(*pair)?;
-            let next = joint.get(number + 1).map(|next| (next.0, next.1));
-            if next != Some((*one, *other)) {
-                let (walks, run) = (
-                    &settled.walks,
-                    mem::replace(&mut pairs, Vec::new(instance.alloc)),
-                );
-                steps = self.add_classes(
-                    instance,
-                    walks,
-                    &mut classes,
-                    (*one, *other),
-                    &run,
-                    steps,
-                )?;
+    /// The classes of open orders that are more than an order. Those of two single activities are not.
+    fn merged(&self, instance: &Instance, settled: &Settled, joint: &[Joint]) -> Result<Classes> {
+        let (mut classes, mut steps, mut last) = (Classes::new(instance), BUDGET, None);
+        for entry in joint {
+            let groups = [entry.one, entry.other];
+            if last != Some(groups) && self.size(groups) > 2 {
+                let two = self.two(instance, settled, joint, groups)?;
+                steps = two.add_classes(&mut classes, steps)?;
             }
+            last = Some(groups);
         }
         Ok(classes)
     }
 
     /// The classes of a project's open orders.
-    pub fn classes(&self, instance: &Instance, settled: &Settled) -> Result<Classes> {
-        let mut classes = self.merged(instance, settled)?;
+    pub(crate) fn classes(
+        &self,
+        instance: &Instance,
+        settled: &Settled,
+        joint: &[Joint],
+    ) -> Result<Classes> {
+        let mut classes = self.merged(instance, settled, joint)?;
         let places = instance.place(instance.count(), 0) as usize;
         let mut seen = Table::filled(instance.alloc, places, false, false)?;
         for Rivals { first, second } in &classes.pairs.values.items {

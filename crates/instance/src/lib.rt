@@ -4,10 +4,13 @@
 //! Nothing here needs to be trusted: whoever takes what a search says has it checked.
 #![tactic(auto)]
 
+mod assignment;
 mod classes;
 mod cliques;
 mod groups;
+mod machine;
 mod member;
+mod model;
 mod numbers;
 mod orders;
 mod rows;
@@ -15,12 +18,13 @@ mod table;
 mod two_groups;
 mod walks;
 
+pub use assignment::{Assignment, Costs};
 pub use classes::{Classes, DelayLemma, Shown, order_edge, reverse};
-pub use cliques::greedy_cliques;
-pub use groups::Groups;
-pub use member::Member;
+pub use machine::{GroupOrder, Machine};
+pub use member::{Late, Member};
+pub use model::Model;
 pub use numbers::{Edge, Instance};
 pub use orders::{Rivals, Settled, settle, start_sequence};
 pub use rows::Rows;
-pub use table::{Result, Table, narrow};
+pub use table::{Result, Table, clip, narrow};
 pub use walks::Walks;

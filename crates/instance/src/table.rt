@@ -11,6 +11,11 @@ pub fn narrow(place: usize) -> u32 {
     (place & 0xffff_ffff) as u32
 }
 
+/// A number of 64 bits, or the nearest one of 32.
+pub fn clip(x: i64) -> i32 {
+    x.clamp(i64::from(i32::MIN), i64::from(i32::MAX)) as i32
+}
+
 /// A list that answers at each place: past its end it holds `rest`, and what is written there is lost.
 #[derive(Drop)]
 pub struct Table<T: Copy> {

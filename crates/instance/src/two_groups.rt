@@ -1,6 +1,7 @@
 //! Two groups of activities: walks between these alone, and what the orders of their rivals say of each other.
 
 use crate::classes::{Classes, DelayLemma, NO_RIVALS, Shown, order_edge, reverse};
+use crate::member::{Late, Member};
 use crate::numbers::{Edge, Instance};
 use crate::orders::Rivals;
 use crate::walks::Walks;
@@ -96,15 +97,18 @@ fn push_further(
     Ok(())
 }
 
-/// Lists that a side holds where the second of a pair does not end before the first starts.
+/// Lists that a side holds where the second of two activities does not end before the first starts.
 fn push_shown(
     lemmas: &mut Vec<DelayLemma>,
     instance: &Instance,
     own: Edge,
     (first, second): (u32, u32),
 ) -> Result<()> {
-    let edges = [reverse(own), reverse(order_edge(instance, second, first))];
-    let shown = Shown::Pair { first, second };
+    let late = Late {
+        first: Member::of(instance, first),
+        second: Member::of(instance, second),
+    };
+    let (shown, edges) = (Shown::Late(late), [reverse(own), late.edge()]);
     lemmas.push(DelayLemma { shown, edges })?;
     Ok(())
 }
@@ -341,6 +345,15 @@ impl<'a> TwoGroups<'a> {
         }))
     }
 
+    /// Adds lemmas, if orders show them all.
+    pub(crate) fn show(&self, classes: &mut Classes, lemmas: &[DelayLemma]) -> Result<bool> {
+        let Some(proofs) = self.proofs(lemmas)? else {
+            return Ok(false);
+        };
+        classes.push_lemmas(lemmas, &proofs)?;
+        Ok(true)
+    }
+
     /// Adds a class that was found, if orders show all that a record needs of it.
     fn add(&self, classes: &mut Classes, found: &Found) -> Result<bool> {
         if found.is_plain(self.instance) {
@@ -348,16 +361,12 @@ impl<'a> TwoGroups<'a> {
         }
         let (class, edge) = (classes.count(), classes.edges.values.count());
         let lemmas = found.lemmas(self.instance, class, edge)?;
-        let Some(proofs) = self.proofs(&lemmas)? else {
+        if !self.show(classes, &lemmas)? {
             return Ok(false);
-        };
+        }
         classes.pairs.push_row(&found.pairs)?;
         classes.edges.push_row(&found.before)?;
         classes.edges.push_row(&found.after)?;
-        for (lemma, number) in lemmas.iter().zip(0..u32::MAX) {
-            classes.lemmas.push(*lemma)?;
-            classes.proofs.push_row(proofs.row(number))?;
-        }
         Ok(true)
     }
 

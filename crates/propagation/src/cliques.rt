@@ -4,10 +4,11 @@
 
 use crate::clique_changes::{ANY_RISE, CliqueChanges, NO_CHANGE, NO_RISES, Rises, Set, Side, bit};
 use crate::edges::Edges;
+use crate::group_orders::GroupOrders;
 use crate::pay::Pay;
 use crate::windows::{Window, overload, reached, renew_all};
 use crate::{BoundChange, Conflict, Literal, NEVER, Reason, Stop, Trail};
-use instance::{Instance, Member, Result, Rows, Table, narrow};
+use instance::{Instance, Machine, Member, Result, Rows, Table, narrow};
 use std::mem;
 
 /// The most members of a clique that is looked at everywhere.
@@ -41,6 +42,8 @@ pub struct Cliques<'a> {
     /// So many cliques are looked at everywhere. Those after them are so at the root and below a supposed end alone.
     short: u32,
     pub members: Rows<Member>,
+    /// The clique of intervals of groups, if there is one, and the orders of these.
+    machine: Option<(u32, GroupOrders)>,
     /// By all members, clique after clique: the places of those that are known to run before it, and after it.
     pub(crate) before: Table<Set>,
     pub(crate) after: Table<Set>,
@@ -89,11 +92,19 @@ fn add_all(
     Ok(())
 }
 
-/// The cliques that are looked at everywhere, and then the long ones. Gives how many the first are.
-fn parted(instance: &Instance, found: &Rows<u32>) -> Result<(Rows<Member>, u32)> {
+/// The cliques that are looked at everywhere, of which a machine is the last, and then the long ones. Gives how many the
+/// first are.
+fn parted(
+    instance: &Instance,
+    found: &Rows<u32>,
+    machine: Option<&Machine>,
+) -> Result<(Rows<Member>, u32)> {
     let (most, none) = (most_members(found), Member::default());
     let mut members = Rows::new(instance.alloc, none);
     add_all(&mut members, instance, found, 0, most)?;
+    if let Some(machine) = machine {
+        members.push_row(&machine.members)?;
+    }
     let count = members.count();
     add_all(
         &mut members,
@@ -106,15 +117,25 @@ fn parted(instance: &Instance, found: &Rows<u32>) -> Result<(Rows<Member>, u32)>
 }
 
 impl<'a> Cliques<'a> {
-    /// Cliques of given members, which rise.
-    pub fn new(instance: &'a Instance, edges: &Edges, found: &Rows<u32>) -> Result<Cliques<'a>> {
-        let (alloc, (members, short)) = (instance.alloc, parted(instance, found)?);
+    /// Cliques of given members, which rise, and that of a machine's intervals.
+    pub fn new(
+        instance: &'a Instance,
+        edges: &Edges,
+        found: &Rows<u32>,
+        machine: Option<&Machine>,
+    ) -> Result<Cliques<'a>> {
+        let (alloc, (members, short)) = (instance.alloc, parted(instance, found, machine)?);
+        let orders = match machine {
+            Some(machine) => Some(GroupOrders::new(instance, edges, machine)?),
+            None => None,
+        };
         let mut cliques = Cliques {
             instance,
             windows: Rows::new(alloc, Window::default()),
             turned: Rows::new(alloc, Window::default()),
             short,
             members,
+            machine: orders.map(|orders: GroupOrders| (short.wrapping_sub(1), orders)),
             before: Table::new(alloc, 0),
             after: Table::new(alloc, 0),
             news: Table::new(alloc, NO_CHANGE),
@@ -216,8 +237,21 @@ impl<'a> Cliques<'a> {
 
     /// The literal by which one member ends before another one begins; none if it does so by lags.
     pub fn precedence(&self, edges: &Edges, clique: u32, one: u32, other: u32) -> Option<Literal> {
+        match &self.machine {
+            Some((machine, orders)) if *machine == clique => {
+                return Some(orders.before(one, other));
+            }
+            _ => {}
+        }
         let (a, b) = (self.member(clique, one), self.member(clique, other));
         edges.precedence(a.activity, b.activity)
+    }
+
+    /// Whether a clique is that of a machine's intervals.
+    pub fn has_intervals(&self, clique: u32) -> bool {
+        self.machine
+            .as_ref()
+            .is_some_and(|machine| machine.0 == clique)
     }
 
     /// By cliques that are looked at everywhere: the places of two members of which the literal of a slot says that the

@@ -1,4 +1,4 @@
-//! Propagators: what follows from bounds by arcs and orders, by the time table, by cliques, and by energy.
+//! Propagators: what follows from bounds by arcs and orders, by the time table, by cliques, by tours, and by energy.
 //!
 //! Each reads the trail and makes literals hold, with a reason by which they are explained when an analysis asks.
 #![tactic(auto)]
@@ -8,6 +8,7 @@ mod cliques;
 mod edge_finding;
 mod edges;
 mod energy;
+mod group_orders;
 mod implied;
 mod lemmas;
 mod literal;
@@ -16,6 +17,7 @@ mod pay;
 mod profile;
 mod reason;
 mod time_table;
+mod tours;
 mod trail;
 mod windows;
 
@@ -27,4 +29,5 @@ pub use literal::{Literal, NEVER};
 pub use profile::{Interval, NO_PART, Profile};
 pub use reason::{Conflict, Reason, Stop};
 pub use time_table::TimeTable;
+pub use tours::Tours;
 pub use trail::{BoundChange, Trail};

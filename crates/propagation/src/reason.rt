@@ -75,6 +75,8 @@ pub enum Conflict {
     Energy { resource: u32, from: i32, to: i32 },
     /// All literals of the lemma at this place are false.
     Lemma { place: u32 },
+    /// Groups that run one after the other end too late, in whatever order.
+    Tour,
 }
 
 /// Why a step of the search did not end well.

@@ -6,6 +6,7 @@ from ..project import Arc
 from ..total import TotalFloat
 from .chart import holding, mark
 from .drawing import Bar, Drawing
+from .group_delays import Groups
 from .project_file import ProjectFile
 from .wording import Words
 
@@ -17,7 +18,7 @@ class Tables:
     def __init__(self, opened: ProjectFile, starts: Sequence[int], shown: Drawing, total: TotalFloat | None,
                  unknown: Collection[int]) -> None:
         self.opened, self.starts, self.shown, self.total, self.unknown = opened, starts, shown, total, unknown
-        self.words = Words(opened)
+        self.words, self.groups = Words(opened), Groups(opened.project)
         self.before: dict[int, list[Arc]] = {}  # the lags by which each activity waits
         for arc in opened.project.arcs:
             self.before.setdefault(arc.head, []).append(arc)
@@ -108,6 +109,8 @@ class Tables:
         """Why an activity can't start one period sooner while the others stay."""
         project, words, start = self.opened.project, self.words, self.starts[activity]
         told = [words.lag(arc) for arc in self.before.get(activity, ()) if project.slack(arc, self.starts) == 0]
+        if activity in self.groups.members:
+            told += map(words.delay, self.groups.holding(activity, self.starts))
         if not start:
             return [*told, "the project starts then"]
         for resource, units in enumerate(project.demands[activity] if project.durations[activity] else ()):

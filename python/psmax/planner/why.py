@@ -1,4 +1,5 @@
 """`plan why`: why a project has no schedule, or none that ends in time. psprove proves each cause."""
+import itertools
 from collections.abc import Callable
 from dataclasses import replace
 
@@ -12,9 +13,11 @@ from ..psmax import Psmax
 from ..psprove import Limits, Psprove
 from .beginning import Start, begin_with
 from .circles import circles, in_words
+from .group_delays import Groups
 from .project_file import ProjectFile, must_be_ordinary
 from .wording import Words, are
 
+MOST_GROUPS = 3  # whose delays are told
 CONFLICTS = 10_000  # of a search of the project without one of its lags, or with a longer one
 
 
@@ -71,6 +74,18 @@ class Causes:
         self.say(f"{lead}, by a proof of psprove; without {which} there is a schedule:")
         for part in found.parts():
             self.say(f"  {self.part(part)}" + ("" if part in found.schedules else " (not known whether it is needed)"))
+        self.tell_delays()
+
+    def tell_delays(self) -> None:
+        """How much later one group starts than another one, of the few whose lags are impossible together."""
+        groups = Groups(self.project)
+        firsts = sorted({groups.first[i] for arc in self.arcs for i in (arc.tail, arc.head) if i in groups.first})
+        pairs = itertools.permutations(firsts, 2) if len(firsts) <= MOST_GROUPS else ()
+        delays = [delay for delay in itertools.starmap(groups.delay, pairs) if delay is not None]
+        if delays:
+            self.say("Some of these may not wait, so which is first says how much later the other one starts:")
+        for delay in delays:
+            self.say(f"  {self.words.delay(delay)}")
 
     def part(self, part: Part) -> str:
         if part.kind is Kind.LAG:

@@ -5,6 +5,7 @@ from collections.abc import Collection, Sequence
 from ..dated import DatedLag, ShiftLag
 from ..project import Away, Arc, Goal
 from ..psmax import Breach
+from .group_delays import Delay
 from .project_file import ProjectFile
 
 
@@ -138,6 +139,13 @@ class Words:
         if beyond >= 0 and self.project.durations[before]:
             return f"{limit} {self.opened.length(beyond)} after {name} ends" if beyond else f"{at_once} {name} ends"
         return f"{limit} {self.opened.length(lag)} after {name} starts" if lag else f"{at_once} {name} starts"
+
+    def delay(self, delay: Delay) -> str:
+        """How much later one group starts than another one before it."""
+        first, second = self.names.activity(delay.first), self.names.activity(delay.second)
+        *more, last = map(self.names.resource, delay.resources)
+        needs = f"{', '.join(more)} and {last}" if more else last
+        return f"{first} before {second}: {self.many(delay.periods)} later, for {needs}"
 
     def absence(self, one: Away) -> str:
         """What is away, and when."""
