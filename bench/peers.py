@@ -1,9 +1,11 @@
 #!/usr/bin/env python3
-"""bench/peers.py [--seconds S] [--start S] [--psprove FILE] [--clasp FILE] [--only WORD]
+"""bench/peers.py [--seconds S] [--start S] [--psprove FILE] [--clasp FILE] [--only WORD] [--groups]
 
 Prints a table of what `psprove solve` and Debian's `clasp` prove of shops (bench/shops.py) and of networks
 (bench/networks.py) of 20 to 80 activities. clasp solves the encoding of bench/orders.py and branches on it as it likes
-(`--configuration=auto`). `--only` takes those projects alone whose name has the word.
+(`--configuration=auto`). `--only` takes those projects alone whose name has the word. With `--groups` the projects are
+five each of flow shops and job shops without wait, and of the families of bench/groups.py, and each five have a row:
+how many are proved, and the median of the seconds.
 
 A program is the one that is named, else that of the PATH. Each gets S seconds a project, 60 if not said: psprove by
 the clock, with one job; clasp of a processor, with those of the encoder. A cell says the makespan of the best schedule,
@@ -20,11 +22,13 @@ import contextlib
 import csv
 import re
 import shutil
+import statistics
 import sys
 import tempfile
 import time
-from collections.abc import Iterator
+from collections.abc import Iterator, Sequence
 
+import groups
 import large
 import measuring
 import models
@@ -35,6 +39,10 @@ import watching
 from projects import Project
 
 SHOPS = "ft06", "ft10", "ft20", "ta01", "ta02", "ta03", "ta04", "ta05"
+FLOWS = "12x5", "14x5", "20x5", "30x5", "40x5", "30x10"
+JOBS = "8x5", "10x8", "12x5"
+GROUPS = {"hoist": ((10, 4), (14, 4), (20, 4)), "blocking": ((8, 5), (12, 4), (15, 5)), "dies": ((12, 3), (24, 3))}
+SEEDS = 1, 2, 3, 4, 5
 SIZES = 20, 30, 45, 60, 80
 STRENGTHS = 0, 0.1, 0.25, 0.5
 CEILINGS = 1.15, 1.6, 2.4  # times the longest walk
@@ -143,6 +151,22 @@ def chosen_projects() -> Iterator[tuple[str, Project]]:
             yield f"network {n}, strength {strength}", networks.project(n, 1, strength)
 
 
+def without_wait(size: str, is_flow: bool) -> list[Project]:
+    made = [shops.named(size, (seed, seed)) for seed in SEEDS]
+    return [shops.project(shops.in_one_order(shop) if is_flow else shop, wait=0) for shop in made]
+
+
+def families() -> Iterator[tuple[str, list[Project]]]:
+    """Five projects each whose great lags tie activities into groups."""
+    for size in FLOWS:
+        yield f"flow shop without wait {size}", without_wait(size, is_flow=True)
+    for size in JOBS:
+        yield f"job shop without wait {size}", without_wait(size, is_flow=False)
+    for family, sizes in GROUPS.items():
+        for n, k in sizes:
+            yield f"{family} {n}x{k}", [groups.project(family, n, k, seed) for seed in SEEDS]
+
+
 def published() -> dict[str, int]:
     """The makespans of shortest schedules, by the names of their shops."""
     with open(measuring.TOP / "reference" / "published.csv", encoding="utf-8", newline="") as file:
@@ -178,8 +202,22 @@ class Row:
         return best < sys.maxsize and any(answer.none or answer.bound > best for answer in self.answers())
 
 
+def told(answers: Sequence[Answer]) -> str:
+    """How many are proved, and the median of the seconds."""
+    proved, seconds = sum(map(Answer.is_proved, answers)), statistics.median(answer.seconds for answer in answers)
+    return f"{proved} of {len(answers)}; {seconds:.2f}"
+
+
+def tell_families(o: argparse.Namespace) -> None:
+    for name, projects in families():
+        if o.only in name:
+            rows = [Row(f"{name}, seed {seed}", project, o) for seed, project in zip(SEEDS, projects)]
+            measuring.row(name, *map(told, zip(*(row.answers() for row in rows))))
+
+
 def main() -> None:
     parser = argparse.ArgumentParser(description=__doc__, formatter_class=argparse.RawDescriptionHelpFormatter)
+    parser.add_argument("--groups", action="store_true")
     parser.add_argument("--seconds", type=float, default=60.0)
     parser.add_argument("--start", type=float, default=2.0)
     parser.add_argument("--only", default="")
@@ -189,6 +227,8 @@ def main() -> None:
     if not o.psprove:
         sys.exit("no psprove")
     measuring.heads("Project", "psprove", *(["clasp"] if o.clasp else []))
+    if o.groups:
+        return tell_families(o)
     rows = []
     for name, project in chosen_projects():
         if o.only in name:

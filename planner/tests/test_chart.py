@@ -190,7 +190,7 @@ class Tables(InFolder):
                                 "held: 3 (c) starts no sooner than 2 (b) ends"])
 
     def test_group_that_holds_another(self) -> None:
-        """By hand: a hoist takes rack A away from 3 to 5, so the group of rack B, which it brings then, starts 5 later."""
+        """By hand: a hoist takes rack A away from 3 to 5, so rack B, which it brings then, starts 5 later."""
         rows = "".join(f"bring {rack},2,1,,,\ndip {rack},1,,bring {rack},0,0\ntake {rack},2,1,dip {rack},0,0\n"
                        for rack in "AB")
         table = self.file("p.csv", f"activity,minutes,hoist (1),after,at least,at most\n{rows}")
