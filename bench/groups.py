@@ -14,11 +14,11 @@ dies      N dies are heated in one of K furnaces for 20 to 40 periods, pressed w
 
 Flow and job shops without wait are those of bench/shops.py with `--wait 0`."""
 import argparse
-import random
 import sys
 from collections.abc import Callable
 from typing import NamedTuple
 
+from lehmer import Lehmer, of_words
 from projects import Arc, Project
 
 
@@ -32,28 +32,28 @@ class Step(NamedTuple):
 Group = list[Step]
 
 
-def hoist(n: int, k: int, rng: random.Random) -> list[Group]:
-    moves = [rng.randint(1, 3) for _ in range(k + 1)]
+def hoist(n: int, k: int, draw: Lehmer) -> list[Group]:
+    moves = [draw.within(1, 3) for _ in range(k + 1)]
     groups = []
     for _ in range(n):
         steps = [Step(moves[0], k)]
         for tank in range(k):
-            steps += [Step(rng.randint(5, 30), tank), Step(moves[tank + 1], k)]
+            steps += [Step(draw.within(5, 30), tank), Step(moves[tank + 1], k)]
         groups.append(steps)
     return groups
 
 
-def blocking(n: int, k: int, rng: random.Random) -> list[Group]:
-    return [[step for machine in range(k) for step in (Step(rng.randint(10, 40), machine), Step(1, machine, 9))]
+def blocking(n: int, k: int, draw: Lehmer) -> list[Group]:
+    return [[step for machine in range(k) for step in (Step(draw.within(10, 40), machine), Step(1, machine, 9))]
             for _ in range(n)]
 
 
-def dies(n: int, k: int, rng: random.Random) -> list[Group]:
-    return [[Step(rng.randint(20, 40), 0), Step(rng.randint(3, 8), 1, 2), Step(rng.randint(10, 20), 2)]
+def dies(n: int, k: int, draw: Lehmer) -> list[Group]:
+    return [[Step(draw.within(20, 40), 0), Step(draw.within(3, 8), 1, 2), Step(draw.within(10, 20), 2)]
             for _ in range(n)]
 
 
-FAMILIES: dict[str, Callable[[int, int, random.Random], list[Group]]] = {
+FAMILIES: dict[str, Callable[[int, int, Lehmer], list[Group]]] = {
     "hoist": hoist, "blocking": blocking, "dies": dies}
 
 
@@ -63,9 +63,9 @@ def capacities(family: str, k: int) -> list[int]:
 
 def project(family: str, n: int, k: int, seed: int) -> Project:
     """A project of a family. The steps of a group come one after the other."""
-    rng, most = random.Random(f"{family} {n} {k} {seed}"), capacities(family, k)
+    draw, most = of_words(family, n, k, seed), capacities(family, k)
     durations, demands, arcs = [0], [[0] * len(most)], list[Arc]()
-    for group in FAMILIES[family](n, k, rng):
+    for group in FAMILIES[family](n, k, draw):
         for place, step in enumerate(group):
             if place:
                 i, before = len(durations), group[place - 1].duration

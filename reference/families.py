@@ -31,6 +31,10 @@ LOTS = [(story, lots, seed) for story in ("perishable", "sterile", "curing") for
         for seed in (1, 2)]
 TIGHTENED = {"assay-lab": (25, 10, 0), "vaccine-lots": (75, 50, 25, 0), "exchanger-turnaround": (0,),
              "twin-towers": (0,)}
+FLOWS = "12x5", "14x5", "20x5", "30x5", "30x10"
+JOBS = "8x5", "10x8"
+GROUPS = "hoist 10 4", "hoist 14 4", "blocking 8 5", "blocking 12 4", "dies 12 3"
+GROUP_CONFLICTS = 30_000
 SHUTDOWNS = 50, 75, 100, 150, 200
 PLANNERS = sorted(path.stem for path in (TOP / "planner" / "projects").glob("*.sch"))
 
@@ -64,6 +68,19 @@ def windows() -> Iterator[Listed]:
             yield Listed(f"{name}-{share}", "time windows", words)
 
 
+def groups() -> Iterator[Listed]:
+    for seed in 1, 2:
+        for size in FLOWS:
+            words = f"bench/shops.py {size} --seeds {seed} {seed} --flow --wait 0"
+            yield Listed(f"flow-{size}-{seed}", "no wait", words, GROUP_CONFLICTS)
+        for size in JOBS:
+            words = f"bench/shops.py {size} --seeds {seed} {seed} --wait 0"
+            yield Listed(f"job-{size}-{seed}", "no wait", words, GROUP_CONFLICTS)
+        for words in GROUPS:
+            name = words.replace(" ", "-")
+            yield Listed(f"{name}-{seed}", "no wait", f"bench/groups.py {words} --seed {seed}", GROUP_CONFLICTS)
+
+
 def planners() -> Iterator[Listed]:
     for n in SHUTDOWNS:
         yield Listed(f"shutdown-{n}", "shutdown", f"bench/shutdown.py {n} 1", SIZES[200])
@@ -72,4 +89,4 @@ def planners() -> Iterator[Listed]:
 
 
 def listed() -> list[Listed]:
-    return [*progen(), *job_shops(), *open_shops(), *windows(), *planners()]
+    return [*progen(), *job_shops(), *open_shops(), *windows(), *groups(), *planners()]
