@@ -5,21 +5,30 @@ Has psprove search small projects (300 by default) in cubes. The first search me
 that stays open is split again. Each search is given the lemmas of those before it. Then the logs are joined, which has
 to give psmax's verdict, starts that pass `psmax check`, and a record that `psprove verify` and tests/verify_log.py
 accept. Of each fifth project a log is left out or cut, of another fifth two logs are exchanged: then the join names
-what is wrong, and its bound is true. The last line counts the projects and the texts."""
+what is wrong, and its bound is true. A join writes its record while it reads the logs. The last line counts the
+projects and the texts."""
+import contextlib
 import functools
 import json
+import os
 import pathlib
+import subprocess
+import time
 from collections.abc import Iterator, Sequence
 from typing import Any, NamedTuple
 
 import harness
 import projects
 import searches
+import verify_log
 from harness import Verdicts
 
 # How many conflicts the first searches may meet; those after them are not limited.
 LIMITS = [0, 0, 0, 0, 1, 1, 1, 1]
 MOST = 1_000_000
+
+SEVERAL = 8  # the seed of a project with a log before the last one that has lemmas
+PATIENCE = 20  # seconds until a join has to have written what it took
 
 # What is asked of a cube, and what is said of it on standard error, with the exit status.
 BAD: list[tuple[str, list[str], str, int]] = [
@@ -86,9 +95,12 @@ class Tree:
             if found["cube"] == "open":
                 todo += [Cube(cube.name + part["name"], cube.arcs + part["arcs"]) for part in found["pieces"]]
 
-    def join(self) -> harness.Ended:
+    def join_words(self) -> list[str]:
         (self.folder / "tree").write_text("".join(self.lines))
-        return self.run("join", "--project", "project.sch", "--tree", "tree", "--record", "joined", *self.started())
+        return ["join", "--project", "project.sch", "--tree", "tree", "--record", "joined", *self.started()]
+
+    def join(self) -> harness.Ended:
+        return self.run(*self.join_words())
 
 
 def wrong_join(programs: tuple[str, str], tree: Tree, answer: bytes) -> str | None:
@@ -144,12 +156,41 @@ def bad_texts(psprove: str, folder: pathlib.Path) -> Iterator[harness.Verdict]:
         yield f"{path!r} {words}", fault
 
 
+def give(pipe: pathlib.Path, text: bytes, run: "subprocess.Popen[bytes]") -> None:
+    """Writes a text into a pipe once a process reads it."""
+    while run.poll() is None:
+        with contextlib.suppress(OSError), open(os.open(pipe, os.O_WRONLY | os.O_NONBLOCK), "wb") as writer:
+            writer.write(text)
+            return
+        time.sleep(0.01)
+
+
+def written_meanwhile(programs: tuple[str, str], folder: pathlib.Path) -> str | None:
+    """A join has written what it took of the logs before, while it waits for the last one, which is a pipe."""
+    tree = Tree(programs[1], folder / "meanwhile", searches.text_of(SEVERAL))
+    tree.refute()
+    last, part = tree.folder / tree.lines[-1].split()[1], tree.folder / "joined.part"
+    log = last.read_bytes()
+    last.unlink()
+    os.mkfifo(last)
+    end = time.monotonic() + PATIENCE
+    run = subprocess.Popen([tree.psprove, *tree.join_words()], cwd=tree.folder, stdout=subprocess.PIPE)
+    is_begun = False
+    while time.monotonic() < end and run.poll() is None and not is_begun:
+        is_begun = part.exists() and part.stat().st_size > len(verify_log.TITLE)
+        time.sleep(0.01)
+    give(last, log, run)
+    answer = run.communicate()[0]
+    return wrong_join(programs, tree, answer) if is_begun else "nothing is written before the last log is read"
+
+
 def verdicts(words: Sequence[str]) -> Verdicts:
     parser = harness.Words(__doc__, "psmax", "psprove")
     parser.add_argument("--projects", type=int, default=300)
     o = parser.parse_args(words)
     with harness.new_folder() as folder:
         yield from bad_texts(o.psprove, folder)
+        yield "a record is written meanwhile", written_meanwhile((o.psmax, o.psprove), folder)
         look = functools.partial(wrong, (o.psmax, o.psprove), folder)
         for seed, found in enumerate(harness.side_by_side(look, range(o.projects))):
             yield f"project {seed}", found

@@ -4,8 +4,8 @@
 Looks at what each option of `psprove solve` does to a search that no contract tells: that a search answers at all, how
 many jobs there are and that each searches, that each limit ends a search, that a seed changes it, that the same words
 give the same log, and that lemmas may take what --memory says; that the figures are those of the search; that a search
-goes on from the starts that it is given or hears, and that what it has found is told at a limit. --only takes the looks
-whose names have a word. The last line counts what was looked at."""
+goes on from the starts that it is given or hears, and that what it has found is told at a limit. The same of a cube.
+--only takes the looks whose names have a word. The last line counts what was looked at."""
 import json
 import pathlib
 import subprocess
@@ -22,12 +22,23 @@ HARD = networks.project(100, 1, 0).text()  # takes some thousand conflicts
 LONG = shutdown.project(300, 1).text()  # has long lemmas
 EASY = harness.seeded(10, 1)[1]  # is solved within a second
 CONFLICTS = 400
+SECONDS = 60  # the default of --seconds
 PATIENCE = 300  # seconds of a run: a program that looks at each of its accesses is slow
 JOBS = 3
 PROGRESS = "--progress", "json"
+CUBE = "--project", "project", "--under", "whole", "--record", "log"
 
 Answer = dict[str, Any]
 Looked = Iterator[tuple[str, bool, object]]  # what is wanted, whether it is so, and what is there
+
+
+def starts_text(starts: Sequence[int]) -> str:
+    return "".join(f"{i} {start}\n" for i, start in enumerate(starts))
+
+
+def told_line(starts: Sequence[int]) -> bytes:
+    """The line of standard input that tells a schedule to a search."""
+    return " ".join(map(str, starts)).encode() + b"\n"
 
 
 class Search:
@@ -35,6 +46,8 @@ class Search:
 
     def __init__(self, program: str, folder: pathlib.Path, text: bytes = HARD) -> None:
         self.program, self.folder, self.text = program, folder, text
+        (folder / "project").write_bytes(text)
+        (folder / "whole").touch()
 
     def ended(self, *words: object) -> harness.Ended:
         return harness.ended([self.program, "solve", "--json", *words], self.text, PATIENCE, cwd=self.folder)
@@ -48,6 +61,20 @@ class Search:
         file = self.folder / "record"
         file.unlink(missing_ok=True)
         return file.read_bytes() if self.ended(*words, "--record", "record")[1] else b""
+
+    def known(self, file: str) -> Answer:
+        """What a longer search finds. Its starts are in a file then."""
+        found = self.answer("--conflicts", 10 * CONFLICTS, "--seconds", PATIENCE)
+        (self.folder / file).write_text(starts_text(found["starts"]))
+        return found
+
+    def cube(self, *words: object) -> Answer:
+        """What became of the cube of no arcs, which stays open."""
+        status, out, faults = self.ended(*CUBE, *words)
+        if status != 3:
+            raise ValueError(f"a cube ends with {status} {faults!r}")
+        found: Answer = json.loads(out)
+        return found
 
     def threads(self, jobs: int) -> int:
         """How many threads a search has while it runs."""
@@ -122,8 +149,7 @@ def what_is_found_is_told(search: Search) -> Looked:
 
 
 def starts_are_gone_on_from(search: Search) -> Looked:
-    known = search.answer("--conflicts", 10 * CONFLICTS)
-    (search.folder / "start").write_text("".join(f"{i} {start}\n" for i, start in enumerate(known["starts"])))
+    known = search.known("start")
     anew, after = search.answer("--conflicts", 1), search.answer("--conflicts", 1, "--start", "start")
     yield "one conflict finds no schedule as short", (anew["makespan"] or 10**6) > known["makespan"], anew["makespan"]
     yield "a search from it has it", after["makespan"] <= known["makespan"], (after["makespan"], known["makespan"])
@@ -131,9 +157,8 @@ def starts_are_gone_on_from(search: Search) -> Looked:
 
 def standard_input_is_followed(search: Search) -> Looked:
     """A schedule that is told there is taken, and its end ends the search."""
-    (search.folder / "project").write_bytes(search.text)
-    known = search.answer("--conflicts", 10 * CONFLICTS)
-    line = " ".join(str(start) for start in known["starts"]).encode() + b"\n"
+    known = search.known("known")
+    line = told_line(known["starts"])
     words = [search.program, "solve", "--project", "project", "--follow", "--json", *PROGRESS]
     with subprocess.Popen(words, stdin=subprocess.PIPE, stdout=subprocess.PIPE, stderr=subprocess.PIPE,
                           cwd=search.folder) as run:
@@ -147,25 +172,63 @@ def standard_input_is_followed(search: Search) -> Looked:
             pass
         ended = json.loads(run.stdout.read())
     yield "a schedule is taken", found.get("starts") == known["starts"], found
-    yield "the end of standard input ends it", (run.returncode, ended["status"]) == (3, "feasible"), ended["status"]
+    is_so = (run.returncode, ended["status"]) == (3, "feasible") and ended["seconds"] < SECONDS
+    yield "the end of standard input ends it", is_so, (ended["status"], ended["seconds"])
     yield "its answer is no longer", ended["makespan"] <= known["makespan"], ended["makespan"]
     status, _, faults = search.ended("--follow")
     yield "the project is in a file", (status, b"--project" in faults) == (2, True), (status, faults)
 
 
 def a_file_ends_a_cube(search: Search) -> Looked:
-    (search.folder / "project").write_bytes(search.text)
-    (search.folder / "whole").write_bytes(b"")
-    words = ["--project", "project", "--under", "whole", "--record", "log", "--conflicts", CONFLICTS]
-    for file, wanted in ("none", CONFLICTS), ("whole", 0):
-        status, out, _ = search.ended(*words, "--until", file)
-        found = status, json.loads(out)["conflicts"]
-        yield f"a cube until there is {file}", found == (3, wanted), found
+    (search.folder / "there").touch()
+    for file, wanted in ("none", CONFLICTS), ("there", 0):
+        found = search.cube("--conflicts", CONFLICTS, "--until", file)["conflicts"]
+        yield f"a cube until there is {file}", found == wanted, found
+
+
+def a_cube_tells_its_figures(search: Search) -> Looked:
+    """The lemmas that it exports have the limits of PROVING.md, and those of fewest levels come first."""
+    told = search.cube("--conflicts", CONFLICTS, "--export", "lemmas")["record_bytes"]
+    is_so = (search.folder / "log").stat().st_size
+    yield "the bytes of its log", told == is_so, (told, is_so)
+    lemmas = [line.split() for line in (search.folder / "lemmas").read_text().splitlines()]
+    levels = [int(lemma[0]) for lemma in lemmas]
+    yield "lemmas of several levels", len(set(levels)) > 1, len(lemmas)
+    yield "those of fewest levels first, of 6 at most", levels == sorted(levels) and max(levels) <= 6, levels
+    yield "30 arcs at most", all(len(lemma) <= 1 + 3 * 30 for lemma in lemmas), len(lemmas)
+
+
+def a_guide_is_tried_first(search: Search) -> Looked:
+    known = search.known("known")
+    anew = search.cube("--conflicts", 1)
+    yield "one conflict finds no schedule as short", anew["makespan"] > known["makespan"], anew["makespan"]
+    (search.folder / "longer").write_text(starts_text(anew["starts"]))
+    for words in ["--guide", "known"], ["--guide", "known", "--start", "longer"]:
+        found = search.cube("--conflicts", 1, *words)["makespan"]
+        yield f"it finds a shorter one with {words}", found is not None and found < anew["makespan"], found
+
+
+def a_cube_follows_standard_input(search: Search) -> Looked:
+    known, most = search.known("known"), 10 * CONFLICTS
+    anew = search.cube("--conflicts", most)
+    yield "a cube finds no schedule as short", anew["makespan"] > known["makespan"], anew["makespan"]
+    line = told_line(known["starts"])
+    words = [*CUBE, "--follow", "--conflicts", str(most), "--seconds", str(PATIENCE)]
+    with subprocess.Popen([search.program, "solve", *words], stdin=subprocess.PIPE, stdout=subprocess.PIPE,
+                          cwd=search.folder) as run:
+        assert run.stdin is not None and run.stdout is not None
+        run.stdin.write(line)
+        run.stdin.flush()
+        found = json.loads(run.stdout.read())["makespan"]
+    yield "a cube takes a schedule", found is not None and found <= known["makespan"], found
+    ended = json.loads(harness.ended([search.program, "solve", *words], b"", PATIENCE, cwd=search.folder)[1])
+    yield "the end of standard input ends a cube", ended["conflicts"] < most, ended["conflicts"]
 
 
 LOOKS: Sequence[Callable[[Search], Looked]] = (
     searches_answer, each_job_searches, seeds_differ, limits_end, lemmas_fit_the_memory, what_is_found_is_told,
-    starts_are_gone_on_from, standard_input_is_followed, a_file_ends_a_cube,
+    starts_are_gone_on_from, standard_input_is_followed, a_file_ends_a_cube, a_cube_tells_its_figures,
+    a_guide_is_tried_first, a_cube_follows_standard_input,
 )
 
 
