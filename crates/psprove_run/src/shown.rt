@@ -1,12 +1,14 @@
 //! The outcome that a book of lemmas shows: what the searches say counts for nothing.
 
-ghost use Rattle.std.specs.Prelude.{◌≡◌, Some, IsTrue, IfOk, IfErr, IfSome, OnOk};
+ghost use Rattle.std.specs.Prelude.{◌≡◌, ◌≤ℤ◌, Some, IsTrue, IfOk, IfErr, IfSome, IsSomeAnd, option_map};
 ghost use Rattle.std.specs.Arc.{arc_value};
 ghost use Rattle.network.specs.Problem.{AreStarts};
 ghost use Rattle.network.specs.Schedule.{IsFeasible, IsTrueVerdict, IsScheduleFor};
 ghost use Rattle.network.specs.Schedule.{makespan as makespan_of};
 ghost use Rattle.devices.specs.Faults.{exit_of, IsNoDeviceFault};
-ghost use Rattle.network.specs.Verdicts.{IsTrueOf, verdict_of};
+ghost use Rattle.network.specs.Verdicts.{IsNoLongerThan, IsTrueOf, verdict_of};
+ghost use Rattle.network.specs.Verdicts.{best_of as best_in};
+ghost use Rattle.network.specs.declared.outcome.Outcome.TheVariants as outcomes;
 
 use devices::Fault;
 use lemma_record::Shown;
@@ -32,6 +34,7 @@ fn best_of(
 ) -> Result<Option<Schedule>, Fault>
     requires { IfSome best (λ starts. IsFeasible (arc_value project.now) starts.now) }
     ensures found { IfOk result (λ best. IfSome best (IsScheduleFor (arc_value project.now))) }
+    ensures same { IfOk result (λ found. option_map (λ s. s.starts) found ≡ option_map (λ s. s.now) best.entry) }
     ensures status { IfErr result (λ fault. exit_of fault ≡ 1) }
     ensures fault { IfErr result IsNoDeviceFault }
 {
@@ -57,16 +60,45 @@ fn shortest_of(best: Option<Schedule>, makespan: i64) -> Result<Schedule, Fault>
     }
 }
 
-/// The outcome that is proved, with the best schedule.
+/// Whether a schedule is there that is no longer than a start, if there is one.
+fn is_no_longer(best: Option<&Schedule>, start: Option<&Schedule>) -> bool
+    ensures { IsTrue result → IfSome start.entry (λ s. IsSomeAnd best.entry (λ b. makespan_of b.now.starts ≤ℤ makespan_of s.now.starts)) }
+{
+    match (best, start) {
+        (_, None) => true,
+        (Some(best), Some(start)) => best.makespan() <= start.makespan(),
+        (None, Some(_)) => false,
+    }
+}
+
+/// The outcome of a search that was stopped. It may have begun with a start, and then tells no longer schedule.
+fn stopped(best: Option<Schedule>, bound: i64, start: Option<&Schedule>) -> Result<Outcome, Fault>
+    ensures stopped { IfOk result (λ outcome. outcome ≡ outcomes.Stopped best bound) }
+    ensures no_longer { IfOk result (λ outcome. IfSome start.entry (λ s. IsNoLongerThan (makespan_of s.now.starts) outcome)) }
+    ensures status { IfErr result (λ fault. exit_of fault ≡ 1) }
+    ensures fault { IfErr result IsNoDeviceFault }
+{
+    if !is_no_longer(best.as_ref(), start) {
+        return Err(Fault::Refused);
+    }
+    Ok(Outcome::Stopped { best, bound })
+}
+
+/// The outcome that is proved, with the best schedule, which is no longer than a start.
 pub(crate) fn outcome_of(
     alloc: Global,
     project: &Arc<Project>,
+    start: Option<&Schedule>,
     shown: &Shown,
 ) -> Result<Outcome, Fault>
     requires verdict { IsTrueVerdict (arc_value project.now) shown.now.proved }
     requires feasible { IfSome shown.now.best (λ starts. IsFeasible (arc_value project.now) starts.items) }
+    requires start { IfSome start (λ s. IsScheduleFor (arc_value project.now) s.now) }
     ensures claims { IfOk result (λ outcome. shown.now.proved ≡ verdict_of outcome) }
     ensures true_of { IfOk result (IsTrueOf (arc_value project.now)) }
+    ensures best { IfOk result (λ outcome.
+        option_map (λ s. s.starts) (best_in outcome) ≡ option_map (λ v. v.items) shown.now.best) }
+    ensures no_longer { IfOk result (λ outcome. IfSome start.entry (λ s. IsNoLongerThan (makespan_of s.now.starts) outcome)) }
     ensures status { IfErr result (λ fault. exit_of fault ≡ 1) }
     ensures fault { IfErr result IsNoDeviceFault }
 {
@@ -74,6 +106,6 @@ pub(crate) fn outcome_of(
     match shown.proved {
         Verdict::Optimal { makespan } => Ok(Outcome::Optimal(shortest_of(best, makespan)?)),
         Verdict::NoSchedule => Ok(Outcome::NoSchedule),
-        Verdict::Bound { bound } => Ok(Outcome::Stopped { best, bound }),
+        Verdict::Bound { bound } => stopped(best, bound, start),
     }
 }
