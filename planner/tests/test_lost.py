@@ -5,6 +5,7 @@ import signal
 import subprocess
 import sys
 import time
+import weakref
 from typing import NoReturn
 from unittest import mock
 
@@ -144,6 +145,18 @@ def cut_off(*_: object) -> NoReturn:
         raise AttributeError("save_nargs")
 
 
+def dropped(*_: object) -> None:
+    """As import does: an interrupt comes while a weak reference is called back."""
+    def gone(_: object) -> None:
+        signal.raise_signal(signal.SIGINT)
+        time.sleep(0)
+
+    kept = {1}
+    reference = weakref.ref(kept, gone)
+    del kept
+    assert reference() is None
+
+
 class Ends(InFolder):
     """Ctrl-C, a request to end and a terminal that closes end every command alike."""
 
@@ -152,6 +165,10 @@ class Ends(InFolder):
         with mock.patch("psmax.planner.main.parse_arguments", cut_off):
             ran = plan("solve", TWO_JOBS)
         self.assertEqual((ran.returncode, ran.stderr), (130, "plan: interrupted\n"))
+
+    def test_where_python_drops_it(self) -> None:
+        with mock.patch("psmax.planner.main.parse_arguments", dropped), started("solve", TWO_JOBS) as child:
+            self.assertEqual((child.communicate(timeout=30), child.returncode), (("", ""), -signal.SIGINT))
 
     def test_at_any_moment(self) -> None:
         path = self.hard()

@@ -86,7 +86,9 @@ def heard() -> list[signal.Signals]:
 
 
 def interrupt_once() -> None:
-    """From now on what ends a run raises KeyboardInterrupt; what comes after that ends the process without a word."""
+    """From now on what ends a run raises KeyboardInterrupt; what comes after that ends the process without a word, and
+    so does an interrupt that Python drops."""
+    sys.unraisablehook = end_where_dropped
     for number in heard():
         signal.signal(number, interrupt)
 
@@ -94,6 +96,13 @@ def interrupt_once() -> None:
 def interrupt(*_: object) -> NoReturn:
     end_at_once()
     raise KeyboardInterrupt
+
+
+def end_where_dropped(dropped: "sys.UnraisableHookArgs") -> None:
+    """Python drops what is raised while it calls back a weak reference, as it does when it imports."""
+    if dropped.exc_type is KeyboardInterrupt:
+        signal.raise_signal(signal.SIGINT)
+    sys.__unraisablehook__(dropped)
 
 
 def end_at_once() -> None:
