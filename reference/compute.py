@@ -15,7 +15,7 @@ from concurrent.futures import Future, ThreadPoolExecutor, as_completed
 
 from psmax.errors import Fault
 from psmax.files import write_whole
-from psmax.planner.batch_table import read_published
+from psmax.planner.published import read_published
 
 from . import page, searches, values
 from .families import Listed, listed

@@ -13,7 +13,7 @@ import judges
 import measuring
 import verify
 from psmax.errors import BadInput, Failed
-from psmax.planner.batch_table import Published, contradictions
+from psmax.planner.published import Published, contradictions
 from psmax.project_text import parse
 
 from . import TOP, measures

@@ -12,7 +12,7 @@ import sys
 import verify_log
 from psmax.errors import BadInput, Fault
 from psmax.files import read_bytes, write_whole
-from psmax.planner.batch_table import contradictions, read_published
+from psmax.planner.published import contradictions, read_published
 from psmax.record import PROVED
 
 from . import page, searches, values

@@ -64,7 +64,7 @@ def shop(seed: int, is_open: bool) -> psmax.Project:
     jobs, machines = chance.randint(1, 5), chance.randint(1, 5)
     rows: Shop = [[Operation(machine, chance.randint(0, 99)) for machine in chance.sample(range(machines), machines)]
                   for _ in range(jobs)]
-    fill_from_shop(made, rows, is_open)
+    fill_from_shop(made, rows, machines, is_open)
     return made
 
 

@@ -6,9 +6,24 @@ import shutil
 import subprocess
 import sys
 
+import psmax
 from planner.tests.helpers import CALLED, INPUTS, PLAN, InFolder, plan
+from psmax.planner.published import read_published
 
 from .test_formats import DATA, KNOWN
+
+# Tables of published bounds: what a file is called, its text, and the bounds that it tells.
+PUBLISHED = (
+    ("a.csv", "name;upper;lower\nj301_1;43;\nj301_2;;40\n", {"j301_1": (None, 43), "j301_2": (40, None)}),
+    ("b.csv", "Instance\tLB\tUB\npsp1.sch\t36\t38\n", {"psp1.sch": (36, 38)}),
+    ("c.csv", "upper bound,instance\n7,a\n6,a\n", {"a": (None, 6)}),
+    ("j30opt.sm", "Instance Set : j30.sm\n=====\nPar  Inst  Make-  CPU-Time[sec.]\n----\n  1  1   43   0.05\n"
+     "  1  2   47   0.12\n", {"j301_1": (43, 43), "j301_2": (47, 47)}),
+    ("J60LB.SM", "1\t10\t72\n", {"J601_10": (72, None)}),
+    ("j60hrs.sm", "48 10 85 A. Author 1999\r\n", {"j6048_10": (None, 85)}),
+    ("ubo10.txt", "# 90 5\npsp1 36 38\n\npsp2   41  # closed\n", {"psp1": (36, 38), "psp2": (41, 41)}),
+    ("j301_1.opt", "43\n", {"j301_1": (43, 43)}), ("psp7.sol", "36 38", {"psp7": (36, 38)}),
+)
 
 
 class Batches(InFolder):
@@ -82,7 +97,33 @@ class Batches(InFolder):
         self.assertIn("six.sm: the makespan 9 is below the published lower bound 10\n", told)
         self.assertNotIn("bridge", told)
         self.assertIn("row 2: 'x' is no whole number", known("x,a,\n")[1])
-        self.refused(plan("batch", self.own, "--known", self.file("k.csv", "a,b\n")), 2, "no column 'project'")
+        for text, missing in ("a,b\n", "project"), ("name,best\n", "lower"):
+            ran = plan("batch", self.own, "--known", self.file("k.csv", text))
+            self.refused(ran, 2, f"k.csv: no column '{missing}'")
+
+    def test_published_tables(self) -> None:
+        """Each layout, by hand."""
+        for name, text, wanted in PUBLISHED:
+            with self.subTest(name, text=text):
+                found = read_published(str(self.file(name, text)))
+                self.assertEqual({project: (one.lower, one.upper) for project, one in found.items()}, wanted)
+        for name, text, told in (("j30opt.sm", "Par Inst\n1 x 43\n", "no row of a parameter, an instance and a"),
+                                 ("a.txt", "psp1 3 4\npsp2 3 4 5\n", "line 2: 'psp2 3 4 5' is no name with an"),
+                                 ("b.txt", "psp1\n", "line 1: 'psp1' is no name"), ("c.txt", "psp1 -3\n", "line 1")):
+            with self.subTest(name), self.assertRaisesRegex(psmax.BadInput, f"{name}: {told}"):
+                read_published(str(self.file(name, text)))
+
+    def test_bounds_of_two_tables(self) -> None:
+        """Of each bound the better one counts, whichever table comes first."""
+        self.leave("six.sm")
+        (self.own / "six.sm").rename(self.own / "j301_1.sm")
+        low, high = self.file("j30lb.sm", "1 1 8\n"), self.file("j30hrs.sm", "1 1 10 CDR\n")
+        for better, told in (("1 1 9\n", ""), ("1 1 10\n", "j301_1.sm: the makespan 9 is below the published lower")):
+            more = self.file("j30opt.sm", better)
+            for files in (low, high, more), (more, high, low):
+                ran = plan("batch", self.own, "--known", *files, "--csv", self.folder / "all.csv")
+                self.assertEqual(ran.returncode, 1 if told else 0, ran.stderr)
+                self.assertIn(told, ran.stderr)
 
     def test_the_bar(self) -> None:
         """A terminal shows one line, which grows."""

@@ -10,6 +10,7 @@ from typing import Any
 import psmax
 from planner.tests.helpers import EXAMPLES, InFolder, plan
 from psmax.formats import FORMATS, json_text
+from psmax.planner.published import read_published
 
 from . import made
 
@@ -31,6 +32,18 @@ KNOWN = {
     "hall.xer": ("xer", 12),  # the same hall
     "bridge.json": ("json", 13),  # by hand: the crane is away until day 10
 }
+RULE = " +++++++++++++++++++++++++++++\n"
+PIECE = "Fisher and Thompson 2x2 instance (mt02)\n 2 2\n 0 3 1 2\n 1 2 0 4\n"
+UNEVEN = "2 3\n0 3 2 2\n0 4\n"  # the first job has no operation on machine 1, the second has one alone
+TAILLARD = ("Nb of jobs, Nb of Machines, Time seed, Machine seed, Upper bound, Lower bound\n 2 2 840612802 1 99 7\n"
+            "Times\n 3 2\n 2 4\nMachines\n 1 2\n 2 1\n")
+# Shops as they are published: activities, resources, and the makespan of a shortest schedule.
+SHOPS = (
+    ("the title of a piece", PIECE, (4, 2, 7)), ("jobs of some machines", UNEVEN, (3, 3, 7)),
+    ("a title and rules", f"{RULE} instance a1\n{RULE}{PIECE}{RULE}", (4, 2, 7)),
+    ("a comment", f"# 2 3\n{UNEVEN}", (3, 3, 7)),
+    ("a flow with a job that skips a machine", "3 3\n0 1 1 5 2 1\n0 1 2 1\n1 5\n", (6, 3, 11)),
+)
 
 
 def damaged(text: str, chance: random.Random) -> str:
@@ -124,6 +137,44 @@ class Formats(InFolder):
         ):
             with self.subTest(wanted), self.assertRaisesRegex(psmax.BadInput, re.escape(wanted)):
                 psmax.Project.read(text)
+
+    def test_shops_as_they_are_published(self) -> None:
+        """The optima are by hand: what a machine or a job has to do, which some order of its operations reaches."""
+        for name, text, wanted in SHOPS:
+            project = psmax.Project.read(text)
+            with self.subTest(name):
+                self.assertEqual((len(project), len(project.resources), project.solve(seconds=10, jobs=1).makespan),
+                                 wanted)
+                self.assertEqual(psmax.Project.read(project.text("job-shop")).numbers(), project.numbers())
+        uneven = psmax.Project.read(UNEVEN)
+        self.assertEqual([(one.duration, [*one.demands]) for one in uneven.activities],
+                         [(3, [uneven.resources[0]]), (2, [uneven.resources[2]]), (4, [uneven.resources[0]])])
+        with self.assertRaisesRegex(psmax.BadInput, "has an operation on each machine in each job"):
+            uneven.text("taillard")
+
+    def test_several_instances(self) -> None:
+        """A file of the OR-Library and one of Taillard's, each instance as a file of its own, which is read."""
+        library = self.file("library.txt", f" This file has\n 2 instances\n{RULE} instance a1\n{RULE} {PIECE}"
+                            f" +++++\n instance b-2\n{RULE} {PIECE.replace('0 3', '0 6')} +++\n")
+        taillard = self.file("tai2.txt", TAILLARD + TAILLARD.replace("99 7", "98 6"))
+        for path, names in (library, ["a1.txt", "b-2.txt"]), (taillard, ["tai2-1.txt", "tai2-2.txt"]):
+            out = self.folder / path.stem
+            self.refused(plan("solve", path), 2, f"{path.name}: it holds 2 instances; `plan read FILE --out FOLDER/`")
+            ran = plan("read", path, "--out", f"{out}/")
+            self.assertEqual((ran.stdout, sorted(one.name for one in out.iterdir())), (f"{out}/: 2 instances\n", names))
+            self.assertEqual({len(psmax.Project.read(one)) for one in out.iterdir()}, {4})
+            self.assertEqual(plan("read", path, "--out", out).returncode, 0)  # what is there is the same
+            (out / names[1]).write_text("my own words\n")
+            self.refused(plan("read", path, "--out", out), 2, f"{names[1]} is there, and would be lost")
+        self.assertEqual(psmax.Project.read(self.folder / "library" / "a1.txt").numbers().durations, (0, 3, 2, 2, 4, 0))
+        self.assertEqual({name: (one.lower, one.upper) for name, one in read_published(str(taillard)).items()},
+                         {"tai2-1": (7, 99), "tai2-2": (6, 98)})
+        twice = self.file("twice.txt", library.read_text().replace("b-2", "a1"))
+        self.refused(plan("read", twice, "--out", f"{self.folder}/"), 2, "two instances are called a1")
+        bad = self.file("bad.txt", taillard.read_text().replace("98 6\nTimes\n 3", "98 6\nTimes\n -3"))
+        ran = plan("read", bad, "--out", f"{self.folder}/none/")
+        self.refused(ran, 2, "bad.txt: bad-2: line 4: of job 1 time 1: '-3'")
+        self.assertFalse((self.folder / "none").exists())
 
     def test_schema(self) -> None:
         """What is written keeps the schema, and so does the example; the keys of both are those that are read."""

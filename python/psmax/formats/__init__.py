@@ -1,6 +1,7 @@
 """The texts of projects that are read and written, a module each. docs/FORMATS.md says what they are."""
 import pathlib
 import re
+from collections import Counter
 from collections.abc import Callable
 from dataclasses import dataclass
 from importlib import import_module
@@ -12,6 +13,9 @@ from ..letters import at_most, composed, short
 from ..model import Parts
 from . import job_shop, json_text, mspdi_sign, rcp, sch, sm, taillard, xer_sign
 
+SHOPS = "job-shop", "taillard", "open-shop"
+# Where an instance begins in a text of Taillard's, or, with a name, of the OR-Library.
+PIECE = re.compile(r"^[ \t]*(?:(?:Nb|number) of jobs[ \t]*,|instance[ \t]+(\w[\w.-]*)[ \t\r]*$)", re.I | re.M)
 COMPOUND = b"\xd0\xcf\x11\xe0\xa1\xb1\x1a\xe1"  # how older files of Microsoft begin
 
 
@@ -88,10 +92,27 @@ def read(data: bytes, project: Parts, called: str, name: str | None = None) -> F
     text = composed(decoded(data))
     try:
         one = found(text) if name is None else format_named(name)
+        count = len(pieces(text, called)) if one.name in SHOPS else 1
+        if count > 1:
+            raise BadInput(f"it holds {count} instances; `plan read FILE --out FOLDER/` writes a file of each")
         one.read(text, project)
     except BadInput as fault:
         raise BadInput(*(f"{called}: {re.sub('^the text: ', '', str(told))}" for told in fault.args)) from None
     return one
+
+
+def pieces(text: str, called: str) -> dict[str, str]:
+    """The instances of a text of the OR-Library or of Taillard's, by their names, or else by what the text is called
+    and their number; one alone is the text as it is."""
+    places = [*PIECE.finditer(text)] if found(text).name in SHOPS else []
+    if len(places) < 2:
+        return {called: text}
+    ends = [*(place.start() for place in places[1:]), len(text)]
+    names = [place[1] or f"{called}-{number}" for number, place in enumerate(places, 1)]
+    twice, count = Counter(names).most_common(1)[0]
+    if count > 1:
+        raise BadInput(f"two instances are called {twice}")
+    return {name: text[place.start() : end] for name, place, end in zip(names, places, ends)}
 
 
 def must_be_readable(called: str, data: bytes) -> None:

@@ -26,8 +26,9 @@ def read_sizes(numbers: Reader) -> tuple[int, int]:
     return jobs, numbers.take("the number of machines", 1, min(MOST_RESOURCES, MOST_ACTIVITIES // jobs))
 
 
-def fill_from_shop(project: Parts, shop: Shop, is_open: bool = False) -> None:
-    machines = [project.resource(f"machine {number}", 1) for number in range(1, max(map(len, shop)) + 1)]
+def fill_from_shop(project: Parts, shop: Shop, count: int, is_open: bool = False) -> None:
+    """Of so many machines."""
+    machines = [project.resource(f"machine {number}", 1) for number in range(1, count + 1)]
     owners = [project.resource(f"job {number}", 1) for number in range(1, len(shop) + 1)] if is_open else []
     for job, row in enumerate(shop, 1):
         before: Activity | None = None
@@ -40,7 +41,7 @@ def fill_from_shop(project: Parts, shop: Shop, is_open: bool = False) -> None:
 
 
 def job_shop_of(project: Parts) -> Shop:
-    """The project as a job shop, in which each job has an operation on each machine."""
+    """The project as a job shop, in which each job has an operation at most on each machine."""
     numbers = plain_numbers(project, JOB_SHOP)
     after: dict[int, int] = {}
     for tail, head, lag in numbers.arcs:
@@ -51,10 +52,9 @@ def job_shop_of(project: Parts) -> Shop:
         raise no_shop("has one lag at most to an operation")
     rows = [follow_job(first, after) for first in range(1, numbers.end) if first not in after.values()]
     shop = [[Operation(machine_of(numbers, one), numbers.durations[one]) for one in row] for row in rows]
-    machines = [*range(len(numbers.capacities))]
     is_whole = sum(map(len, rows)) == numbers.end - 1 > 0
-    if not is_whole or any(sorted(one.machine for one in row) != machines for row in shop):
-        raise no_shop("has an operation on each machine in each job")
+    if not is_whole or any(len({one.machine for one in row}) < len(row) for row in shop):
+        raise no_shop("has an operation at most on each machine in each job")
     return shop
 
 

@@ -1,13 +1,15 @@
 """Taillard's texts of job shops and open shops: a line of sizes, then the times and the machines of all operations."""
 import re
 from dataclasses import dataclass
+from itertools import islice
 
 from ..errors import BadInput
 from ..model import Parts
 from .numbers import Reader, lines_of
-from .shops import Operation, Shop, fill_from_shop, job_shop_of, open_shop_of, read_sizes
+from .shops import Operation, Shop, fill_from_shop, job_shop_of, no_shop, open_shop_of, read_sizes
 
 HEAD = re.compile(r"\s*(Nb|number) of jobs\s*,", re.I)
+BEFORE = "the number of jobs", "the number of machines", "the seed of the times", "the seed of the machines"
 
 
 @dataclass(frozen=True)
@@ -35,17 +37,19 @@ def is_like_open_shop(text: str) -> bool:
 
 
 def read_job_shop(text: str, project: Parts) -> None:
-    fill_from_shop(project, read(text))
+    shop = read(text)
+    fill_from_shop(project, shop, len(shop[0]))
 
 
 def read_open_shop(text: str, project: Parts) -> None:
-    fill_from_shop(project, read(text), is_open=True)
+    shop = read(text)
+    fill_from_shop(project, shop, len(shop[0]), is_open=True)
 
 
 def read(text: str) -> Shop:
     numbers = Reader((line, words) for line, words in lines_of(text) if not re.match(r"\s*[A-Za-z]", words))
     jobs, machines = read_sizes(numbers)
-    for name in ("the seed of the times", "the seed of the machines", "the upper bound", "the lower bound"):
+    for name in (*BEFORE[2:], "the upper bound", "the lower bound"):
         numbers.skip(name)
     if not re.search(r"^\s*machines", text, re.I | re.M):
         raise BadInput("there is no section of machines; a flow shop is another problem")
@@ -58,8 +62,20 @@ def read(text: str) -> Shop:
     return [[Operation(machine - 1, time) for machine, time in zip(order, row)] for order, row in zip(orders, times)]
 
 
+def bounds(text: str) -> tuple[int, int]:
+    """The lower and the upper bound of an instance."""
+    numbers = Reader(islice((one for one in lines_of(text) if not re.match(r"\s*[A-Za-z]", one[1])), 1))
+    for name in BEFORE:
+        numbers.skip(name)
+    upper, lower = numbers.take("the upper bound"), numbers.take("the lower bound")
+    return lower, upper
+
+
 def write_job_shop(project: Parts) -> str:
-    return shop_text(job_shop_of(project), JOB_SHOP)
+    shop = job_shop_of(project)
+    if any(len(row) < len(project.resources) for row in shop):
+        raise no_shop("of Taillard's has an operation on each machine in each job")
+    return shop_text(shop, JOB_SHOP)
 
 
 def write_open_shop(project: Parts) -> str:

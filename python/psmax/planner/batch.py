@@ -18,9 +18,10 @@ from ..clock import Clock, tell
 from ..errors import BadInput, Failed
 from ..letters import escaped, printable
 from ..process import ENDING, GLANCE, RECORD, tied
-from .batch_table import FAULT, HEADS, Row, Rows, contradictions, keep_row, read_published, read_batch
+from .batch_table import FAULT, HEADS, Row, Rows, keep_row, read_batch
 from .csv_text import write_sheet
 from .project_file import has_activities, is_project
+from .published import contradictions, read_published
 
 PATIENCE = 2 * ENDING + RECORD  # seconds that a search may take to end when it is asked to
 WIDTH, ROOM = 24, 40  # signs of the bar, and of what is told behind it
@@ -68,7 +69,7 @@ class Batch:
     csv: str | None
     out: str | None
     record: str | None
-    known: str | None
+    known: Sequence[str]
 
 
 @dataclass(frozen=True)
@@ -83,14 +84,14 @@ class Task:
 def batch(wanted: Batch) -> int:
     tasks = chosen(wanted)
     reads = {f"the project {task.row}": str(task.path) for task in tasks}
-    reads |= {} if wanted.known is None else {"the table of bounds": wanted.known}
+    reads |= {f"the bounds {path}": path for path in wanted.known}
     lose_none(reads, [wanted.csv])
     for folder in filter(None, (wanted.out, wanted.record)):
         if os.path.exists(folder) and not os.path.isdir(folder):
             raise Failed(f"cannot write into {folder}: it is no folder")
         os.makedirs(folder, exist_ok=True)
     lose_none(reads, [wanted.csv, *(path for task in tasks for _, path in outputs(task, wanted))])
-    published = {} if wanted.known is None else read_published(wanted.known)
+    published = read_published(*wanted.known)
     done = read_batch(wanted.csv) if wanted.csv is not None and os.path.exists(wanted.csv) else {}
     left = [task for task in tasks if done.get(task.row, {}).get("status", FAULT) == FAULT]
     clock = Clock(float("inf")).listen()

@@ -316,7 +316,7 @@ def add_batch(one: argparse.ArgumentParser) -> None:
                      "output)")
     one.add_argument("--out", metavar="FOLDER", help="write the schedules into this folder")
     one.add_argument("--record", metavar="FOLDER", help="write the records into this folder")
-    one.add_argument("--known", metavar="FILE", help="a table of published bounds: project, lower, upper")
+    one.add_argument("--known", metavar="FILE", nargs="+", default=[], help="published bounds: project, lower, upper")
     one.add_argument("--part", type=part_of_batch, default=(1, 1), metavar="I/N",
                      help="take only each N-th project from the I-th on")
     one.add_argument("--join", nargs="+", metavar="FILE", help="make one table from these, and do not search")

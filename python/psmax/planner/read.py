@@ -41,6 +41,8 @@ def read(path: str, out: str | None, wanted: str | None, words: Settings) -> int
     formats.must_be_readable(path, data)
     text = decoded(data)
     is_sch = pathlib.Path(path).suffix.lower() == PSPLIB or formats.FORMATS["sch"].is_like(text)
+    if is_other(text) and out is not None and (out.endswith("/") or os.path.isdir(out)):
+        return write_pieces(path, text, out)
     if is_other(text) or is_sch and wanted not in (None, "sch"):
         return convert(path, out, wanted or "sch")
     if is_sch:
@@ -56,6 +58,23 @@ def convert(path: str, out: str | None, wanted: str) -> int:
     project = Project()
     formats.read(read_bytes(path), project, path)
     return put_project(path, project, out, wanted)
+
+
+def write_pieces(path: str, text: str, folder: str) -> int:
+    """Each instance of a text into a file of its own, once all are read."""
+    there = pathlib.PurePath(path)
+    files = {os.path.join(folder, name + there.suffix): piece.encode()
+             for name, piece in formats.pieces(text, there.stem).items()}
+    for name, data in files.items():
+        formats.read(data, Project(), f"{path}: {pathlib.PurePath(name).stem}")
+        if read_there(name).strip() not in (b"", data.strip()):
+            raise BadInput(f"{name} is there, and would be lost; name another folder with --out")
+    os.makedirs(folder, exist_ok=True)
+    lose_none({"the project": path}, [*files])
+    for name, data in files.items():
+        write_whole(name, data)
+    print(f"{folder}: {count_of(len(files), 'instance')}")
+    return 0
 
 
 def convert_table(path: str, out: str | None, wanted: str, words: Settings) -> int:
