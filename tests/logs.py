@@ -7,7 +7,8 @@ folder or in planner/projects. Then the rows of faults.jsonl there: each has a l
 it. Last N logs (2,000 by default), the same for the same N: one of twenty is a log of a small project as a prover makes
 it, which has to be right, or one of FOLDER; the others are that log with one to three damages. What is proved of a
 small project is compared with its shortest schedule, which is found by trying all orders. A third of the logs are
-judged with --partial. Without a PROGRAM (the word -) the script is judged alone. The last line counts all."""
+judged with --partial. Without a PROGRAM (the word -) the script is judged alone. And the weights that the script has of
+random arcs, great and small, as numbers, are those that it has of them as lists. The last line counts all."""
 import functools
 import itertools
 import json
@@ -26,6 +27,7 @@ import small_prover
 import verify
 from harness import TOP, Ended, Verdict, Verdicts
 from log_damages import damaged
+from verify_log import MAX_WEIGHT, Block, Root, with_arc
 
 EACH = 20  # logs made of one that is right
 SMALL = 3_000  # bytes of a log of the folder that is damaged
@@ -128,6 +130,24 @@ def rows(judge: Judge, folder: Path) -> Iterator[Verdict]:
         yield row["log"], judge.wrong(whole, bytes.fromhex(row["log"]), row["says"], row.get("partial", False))
 
 
+def weights_fault(seed: int) -> str | None:
+    """Where the weights of a block are not those of its arcs, of which some close a walk of the weight 0 or 1."""
+    rng = random.Random(seed)
+    count = rng.randint(2, 9)
+    rows: verify.Rows | None = [[0 if a == b else -count * MAX_WEIGHT for b in range(count)] for a in range(count)]
+    block = Block(Root(rows or []))
+    while rows is not None and len(block.arcs) < 30:
+        i, j = rng.sample(range(count), 2)
+        less = rng.choice([0, 1, 2, 7, rng.randrange(MAX_WEIGHT), -rng.randrange(9) // 8])
+        arc = i, j, min(MAX_WEIGHT, -rows[j][i]) - less
+        block.add(arc)
+        rows = with_arc(rows, arc)
+        told = [[*map(block.weight, [a] * count, range(count))] for a in range(count)]
+        if block.is_dead != (rows is None) or rows is not None and rows != told:
+            return f"after {block.arcs} the weights are {told}"
+    return None
+
+
 def verdicts(words: Sequence[str]) -> Verdicts:
     parser = harness.Words(__doc__)
     parser.add_argument("program", type=lambda word: None if word == "-" else harness.resolved(word))
@@ -138,6 +158,7 @@ def verdicts(words: Sequence[str]) -> Verdicts:
     for whole in map(whole_in, wholes):
         yield whole.name, judge.wrong(whole, whole.log, f"proved {log_bytes.claim_of(whole.log)}")
     yield from rows(judge, o.folder)
+    yield from ((f"weights of arcs {seed}", weights_fault(seed)) for seed in range(200))
     with harness.new_folder() as folder:
         small = [path for path in wholes if path.stat().st_size < SMALL]
         look = functools.partial(some_played, judge, small, folder, o.logs)

@@ -48,6 +48,7 @@ BUGS = [
     Bug("a clique has room that it just fills", LOGS, "sum(lengths) <= end - start", "sum(lengths) < end - start"),
     Bug("activities that just overlap run apart", LOGS, "weight(a, b) >= project.durations[a]",
         "weight(a, b) >= project.durations[a] - 1"),
+    Bug("a row takes the lesser weights", LOGS, "return other ^ (first", "return first ^ (first"),
     Bug("a tour has room that it just fills", LOGS, "length for m in intervals) <= end - start",
         "length for m in intervals) < end - start"),
     Bug("an interval may begin before its window", LOGS, " >= start - m.at", " >= start - m.at - 1"),

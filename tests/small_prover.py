@@ -9,7 +9,7 @@ import verify
 from verify import Rows
 from verify_log import (
     Arc, Block, Claim, Clique, Drop, Event, Force, Interval, Ledger, Lemma, Line, Load, Push, Schedule, Tour, Use)
-from verify_log import are_rivals, reverse, with_arc
+from verify_log import Root, are_rivals, reverse, rooted, with_arc
 
 Pair = tuple[int, int]
 
@@ -135,21 +135,21 @@ class Prover:
 
     # ---- a lemma
 
-    def is_new(self, rows: Rows, line: Line) -> bool:
-        arc = self.ledger.shown(Block(rows), line)
-        return arc is not None and rows[arc[0]][arc[1]] < arc[2]
+    def is_new(self, root: Root, line: Line) -> bool:
+        arc = self.ledger.shown(Block(root), line)
+        return arc is not None and root.rows[arc[0]][arc[1]] < arc[2]
 
     def candidates(self, rows: Rows) -> Iterator[Line]:
         return (line for maker in self.makers for line in maker(rows))
 
     def stepped(self, rows: Rows, lines: list[Line]) -> Rows | None:
         """The weights with the arcs of those candidates that show something, which are added to the lines."""
-        new: Rows | None = rows
+        root = rooted(rows)
         for line in self.candidates(rows):
-            if new is not None and self.is_new(new, line):
+            if root is not None and self.is_new(root, line):
                 lines.append(line)
-                new = with_arc(new, self.ledger.shown(Block(new), line) or (0, 0, 1))
-        return new
+                root = rooted(with_arc(root.rows, self.ledger.shown(Block(root), line) or (0, 0, 1)))
+        return None if root is None else root.rows
 
     def propagated(self, arcs: Sequence[Arc]) -> tuple[Rows | None, list[Line]]:
         """The weights with all that lines show beside these arcs, and the lines."""

@@ -8,6 +8,8 @@ with exit status 2 for a text that is no record and 4 for a record that is not r
 to be right.
 """
 
+import functools
+import itertools
 import os
 import re
 import sys
@@ -55,6 +57,13 @@ class Project:
 
     def exceeds(self, resource: int, activities: Sequence[int]) -> bool:
         return sum(self.demands[i][resource] for i in activities) > self.capacities[resource]
+
+    @functools.cached_property
+    def rivals(self) -> set[tuple[int, int]]:
+        """Two activities, the lesser first, that take time and together need more of a resource than there is."""
+        running = [i for i in range(self.count) if self.durations[i] > 0]
+        return {pair for pair in itertools.combinations(running, 2)
+                if any(self.exceeds(k, pair) for k in range(len(self.capacities)))}
 
     def is_feasible(self, starts: Sequence[int]) -> bool:
         if len(starts) != self.count or starts[0] != 0:
@@ -200,9 +209,7 @@ def bound(project: Project, rows: Rows) -> int:
 
 def is_forced(project: Project, rows: Rows, pair: Sequence[int]) -> bool:
     before, after = pair
-    if before == after or not project.takes_time(before) or not project.takes_time(after):
-        return False
-    if not any(project.exceeds(k, pair) for k in range(len(project.capacities))):
+    if (min(pair), max(pair)) not in project.rivals:
         return False
     return rows[before][after] > LOW and rows[before][after] > -project.durations[after]
 

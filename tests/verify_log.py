@@ -276,29 +276,67 @@ def with_arc(rows: Rows | None, arc: Arc) -> Rows | None:
     return [over(row) for row in rows]
 
 
+class Root:
+    """The weights by the arcs of the root. For a block a row is one whole number, so that Python adds to all entries at
+    once, and compares them at once: a digit is an entry plus a middle, which keeps it above 0, and its highest bit, the
+    guard, is 0. An entry of a block is the weight of a walk that visits no activity twice, so of fewer than `count`
+    arcs of the root and of the block. Digits have room for two such walks."""
+
+    def __init__(self, rows: Rows) -> None:
+        self.rows, count = rows, len(rows)
+        greatest = max(MAX_WEIGHT, *(max(max(row), -min(row)) for row in rows))
+        bits: int = (4 * (count + 1) * greatest).bit_length()
+        self.middle, self.width = 1 << bits, bits + 2
+        self.digit = 2 * self.middle - 1  # all bits of a digit but the guard
+        self.ones = sum(1 << self.width * place for place in range(count))
+        self.guards = self.ones << self.width - 1
+        self.made: dict[int, int] = {}  # rows as numbers, by activity
+
+    def row(self, a: int) -> int:
+        if a not in self.made:
+            self.made[a] = sum(weight + self.middle << self.width * b for b, weight in enumerate(self.rows[a]))
+        return self.made[a]
+
+    def entry(self, row: int, b: int) -> int:
+        return (row >> self.width * b & self.digit) - self.middle
+
+    def greater(self, first: int, other: int) -> int:
+        """The greater of both in each digit. A guard outlives the subtraction where the first is not less; less its own
+        lowest bit it is a mask of its digit."""
+        guards = (first | self.guards) - other & self.guards
+        return other ^ (first ^ other) & guards - (guards >> self.width - 1)
+
+
+def rooted(rows: Rows | None) -> Root | None:
+    return None if rows is None else Root(rows)
+
+
 class Block:
     """The weights by the arcs of the root and those of a block. Few rows are asked for, so each is made when it is."""
 
-    def __init__(self, root: Rows | None) -> None:
-        self.root, self.is_dead = root or [], root is None
-        self.arcs: list[tuple[Arc, list[int]]] = []  # each with the row of its end before it came
-        self.rows: dict[int, tuple[list[int], int]] = {}  # by activity: its row by so many of these arcs
+    def __init__(self, root: Root) -> None:
+        self.root, self.is_dead = root, False
+        self.arcs: list[tuple[Arc, int]] = []  # each with the row of its end before it came
+        self.rows: dict[int, tuple[int, int]] = {}  # by activity: its row by so many of these arcs
 
-    def row(self, a: int) -> list[int]:
-        row, count = self.rows.get(a, (self.root[a], 0))
+    def row(self, a: int) -> int:
+        root, width, digit = self.root, self.root.width, self.root.digit
+        row, count = self.rows.get(a, (root.row(a), 0))
+        if count == len(self.arcs):
+            return row
         for (i, j, v), ways in self.arcs[count:]:
-            first = row[i] + v
-            if first > row[j]:
-                row = [x if x >= first + y else first + y for x, y in zip(row, ways)]
+            first = (row >> width * i & digit) + v
+            if first > row >> width * j & digit:
+                row = root.greater(row, ways + (first - root.middle) * root.ones)
         self.rows[a] = row, len(self.arcs)
         return row
 
     def weight(self, a: int, b: int) -> int:
-        return self.row(a)[b]
+        return self.root.entry(self.row(a), b)
 
     def implies(self, arc: Arc) -> bool:
         i, j, v = arc
-        return self.root[i][j] >= v or self.weight(i, j) >= v
+        return self.root.rows[i][j] >= v or self.weight(i, j) >= v
 
     def add(self, arc: Arc) -> None:
         """Adds an arc. The block is dead if that closes a positive walk."""
@@ -317,7 +355,7 @@ def with_reverse(block: Block, arc: Arc) -> Weight:
     """An entry of the weights with the arc's reverse, which closes no positive walk."""
     i, j, v = arc
     ways = block.row(i)
-    return lambda a, b: max(block.weight(a, b), block.weight(a, j) + 1 - v + ways[b])
+    return lambda a, b: max(block.weight(a, b), block.weight(a, j) + 1 - v + block.root.entry(ways, b))
 
 
 # ---- what a line shows of a block that closes no positive walk, by an entry of its weights
@@ -328,7 +366,7 @@ def are_members(project: Project, members: Sequence[int]) -> bool:
 
 
 def are_rivals(project: Project, *pair: int) -> bool:
-    return are_members(project, sorted(pair)) and any(project.exceeds(k, pair) for k in range(len(project.capacities)))
+    return (min(pair), max(pair)) in project.rivals
 
 
 def least_part(duration: int, start: int, end: int, head: int, back: int) -> int:
@@ -346,8 +384,9 @@ def is_load(project: Project, weight: Weight, resource: int, start: int, end: in
 
 
 def run_apart(project: Project, weight: Weight, a: int, b: int) -> bool:
-    ordered = weight(a, b) >= project.durations[a] or weight(b, a) >= project.durations[b]
-    return ordered or are_rivals(project, a, b)
+    if are_rivals(project, a, b):
+        return True
+    return weight(a, b) >= project.durations[a] or weight(b, a) >= project.durations[b]
 
 
 def is_clique(project: Project, weight: Weight, start: int, end: int, members: Sequence[int]) -> bool:
@@ -435,9 +474,13 @@ class Ledger:
         for activity, _, lag in project.arcs:
             stretches[activity] = max(stretches[activity], lag)
         self.ceiling = sum(stretches) + 1
-        self.rows = None if asks_too_much(project) else with_arc(root_matrix(project), self.deadline())
+        self.root = None if asks_too_much(project) else rooted(with_arc(root_matrix(project), self.deadline()))
         self.lemmas: dict[int, list[Arc]] = {}
         self.delays = Delays()
+
+    @property
+    def rows(self) -> Rows | None:
+        return None if self.root is None else self.root.rows
 
     def deadline(self) -> Arc:
         return self.project.end, 0, 1 - self.ceiling
@@ -474,7 +517,9 @@ class Ledger:
 
     def is_refuted(self, arcs: Iterable[Arc], lines: Iterable[Line]) -> bool:
         """Whether lines show that no schedule in question meets all these arcs."""
-        block = Block(self.rows)
+        if self.root is None:
+            return True
+        block = Block(self.root)
         for arc in arcs:
             block.add(arc)
         for line in lines:
@@ -491,7 +536,7 @@ class Ledger:
         if not has_room or not all(is_arc(self.project, arc) for arc in arcs) or not self.is_refuted(arcs, lines):
             return False
         if len(arcs) < 2:
-            self.rows = with_arc(self.rows, reverse(arcs[0])) if arcs else None
+            self.root = rooted(with_arc(self.rows, reverse(arcs[0]))) if arcs else None
         else:
             self.lemmas[slot] = arcs
             self.delays.put(slot, arcs)
@@ -506,7 +551,7 @@ class Ledger:
         if not self.project.is_feasible(starts) or starts[-1] >= self.ceiling:
             return False
         self.best, self.ceiling = True, starts[-1]
-        self.rows = with_arc(self.rows, self.deadline())
+        self.root = rooted(with_arc(self.rows, self.deadline()))
         return True
 
     def claim(self) -> str:
