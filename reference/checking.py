@@ -1,10 +1,11 @@
-"""reference/check NAME [--record FILE] [--psprove FILE]
+"""reference/check NAME [--second] [--record FILE] [--psprove FILE]
 
 Makes the record of a row of values.csv and has it verified: writes the project by the row's words, searches it within
-the row's limit of conflicts, and asks `psprove verify` and tests/verify_log.py, which shares nothing with psprove, what
-the record proves. Both have to say what the row says. The project's text has to have the row's SHA-256, and the record
-too, where the row is of this psprove. A row that was submitted has its record in reference/records, which is verified
-in place of one that is made. With --record the record is kept in FILE."""
+the row's limit of conflicts, or by the recipe in reference/recipes, and asks `psprove verify` what the record proves.
+With --second it then asks tests/verify_log.py too, which shares nothing with psprove, and takes a minute for some
+2 MB. Each has to say what the row says. The project's text has to have the row's SHA-256, and the record too, where the
+row is of this psprove. A row whose record was submitted has it in reference/records, which is verified in place of one
+that is made. With --record the record is kept in FILE."""
 import argparse
 import pathlib
 import sys
@@ -22,7 +23,7 @@ def record_of(program: pathlib.Path, row: Row, text: bytes) -> bytes:
     """The record of a row: the one that was submitted, or else that of a search, which says the same as the row."""
     if row["version"] == SUBMITTED:
         return read_bytes(str(RECORDS / f"{row['name']}.log"), None)
-    found = searches.search(program, text, int(row["limit"]))
+    found = searches.search(program, text, searches.recipe_of(row["name"], row["limit"]))
     wrong = differences(row, found.columns(), searches.version_of(program))
     if wrong:
         raise BadInput(f"{row['name']}: " + "; ".join(wrong))
@@ -47,7 +48,7 @@ def contradictions(one: Row, other: Row) -> list[str]:
     return [f"bound {one['bound']}, and a schedule of {other['makespan']}"] if is_above else []
 
 
-def check(name: str, program: pathlib.Path, out: str | None) -> None:
+def check(name: str, program: pathlib.Path, out: str | None, has_second: bool) -> None:
     row, version = values.row_of(name), searches.version_of(program)
     if out is not None:
         must_be_writable(out)
@@ -57,11 +58,16 @@ def check(name: str, program: pathlib.Path, out: str | None) -> None:
     print(told(row, record, version), flush=True)
     if out is not None:
         write_whole(out, record)
-    for by, said in (("psprove verify", searches.by_program(program, text, record)),
-                     ("tests/verify_log.py", searches.by_script(text, record))):
-        if searches.digest(record) == row["record"]:
-            searches.must_prove(row, said, by)
-        print(f"{by}: {said}", flush=True)
+    say(row, record, "psprove verify", searches.by_program(program, text, record))
+    if has_second:
+        say(row, record, "tests/verify_log.py", searches.by_script(text, record))
+
+
+def say(row: Row, record: bytes, by: str, said: str) -> None:
+    """What a checker says; of the record that the table has it has to be what the row says."""
+    if searches.digest(record) == row["record"]:
+        searches.must_prove(row, said, by)
+    print(f"{by}: {said}", flush=True)
 
 
 def told(row: Row, record: bytes, version: str) -> str:
@@ -75,11 +81,12 @@ def main() -> None:
     parser = argparse.ArgumentParser(prog="reference/check", description=__doc__,
                                      formatter_class=argparse.RawDescriptionHelpFormatter)
     parser.add_argument("name")
+    parser.add_argument("--second", action="store_true")
     parser.add_argument("--record")
     parser.add_argument("--psprove", type=pathlib.Path, default=searches.PROGRAM)
     o = parser.parse_args()
     try:
-        check(o.name, o.psprove.resolve(), o.record)
+        check(o.name, o.psprove.resolve(), o.record, o.second)
     except Fault as fault:
         sys.exit(f"reference/check: {fault}")
 

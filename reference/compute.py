@@ -14,12 +14,11 @@ from collections.abc import Iterator
 from concurrent.futures import Future, ThreadPoolExecutor, as_completed
 
 from psmax.errors import Fault
-from psmax.files import write_whole
 from psmax.planner.published import read_published
 
 from . import page, searches, values
 from .families import Listed, listed
-from .values import PUBLISHED, RECORDS, SUBMITTED, Row
+from .values import PUBLISHED, SUBMITTED, Row
 
 
 def sources() -> dict[str, str]:
@@ -32,16 +31,8 @@ def is_done(one: Listed, row: Row | None, version: str) -> bool:
     """Whether a row is of this psprove, and a search by the limit of today would not differ."""
     if row is None or row["version"] != version or row["words"] != one.words:
         return False
-    return int(row["limit"]) == one.limit or values.is_closed(row) and int(row["conflicts"]) < one.limit
-
-
-def keep_record(name: str, record: bytes | None) -> None:
-    """A small record stands in the repository; where there is none, nothing does that stood there before."""
-    path = RECORDS / f"{name}.log"
-    if record is not None:
-        write_whole(str(path), record)
-    else:
-        path.unlink(missing_ok=True)
+    limit = searches.recipe_of(one.name, one.limit).conflicts
+    return int(row["limit"]) == limit or values.is_closed(row) and int(row["conflicts"]) < limit
 
 
 def better(new: Row, old: Row | None) -> bool:
@@ -74,7 +65,7 @@ def compute(program: pathlib.Path, jobs: int, only: str) -> None:
                 print(told(row, is_better), flush=True)
                 if is_better:
                     rows[row["name"]] = row
-                    keep_record(row["name"], record)
+                    values.keep_record(row["name"], record)
                     values.write(rows[one.name] for one in listed() if one.name in rows)
         finally:
             pool.shutdown(cancel_futures=True)

@@ -2,6 +2,7 @@
 
 The parts of docs/REFERENCE.md that the table says, and its pictures. Each part stands between a comment with its name
 and the comment `end`."""
+import hashlib
 import re
 import statistics
 from collections.abc import Sequence
@@ -13,6 +14,7 @@ from . import TOP, plots, values
 from .values import Row, is_closed
 
 PAGE = TOP / "docs" / "REFERENCE.md"
+CITATION = TOP / "CITATION.cff"
 PICTURES = {"reference-proved.svg": plots.proved, "reference-seconds.svg": plots.seconds}
 
 
@@ -46,7 +48,19 @@ def challenges(rows: Sequence[Row]) -> str:
     return line(*heads) + "|" + "---|" * len(heads) + "\n" + "".join(found)
 
 
-PARTS = {"families": families, "challenges": challenges}
+def citing(rows: Sequence[Row]) -> str:
+    """How to cite the table, and what its searches took."""
+    told = dict(re.findall(r'^(?:  - )?([a-z-]+): "?(.+?)"?$', CITATION.read_text(encoding="utf-8"), re.M))
+    digest = hashlib.sha256(values.VALUES.read_bytes()).hexdigest()
+    seconds = sum(float(row["seconds"] or 0) for row in rows)
+    fields = {"title": told["title"], "author": f"{{{told['name']}}}", "year": told["date-released"][:4],
+              "version": told["version"], "note": f"Reference values, SHA-256 {digest}"}
+    entry = "".join(f"  {name} = {{{value}}},\n" for name, value in fields.items())
+    return (f"```bibtex\n@software{{psmax,\n{entry}}}\n```\n\n`make reference-values` searches all {len(rows)} "
+            f"projects anew in {seconds / 3600:.1f} hours of a processor.\n")
+
+
+PARTS = {"families": families, "citing": citing, "challenges": challenges}
 
 
 def text(page: str, rows: Sequence[Row]) -> str:

@@ -18,7 +18,7 @@ from psmax.project_text import parse
 
 from . import TOP, measures
 from .families import Listed
-from .values import Row, claim
+from .values import RECIPES, Row, claim
 
 PROGRAM = TOP / "release" / "psprove"
 EVER = 1_000_000_000  # seconds: conflicts end a search, so that it is the same on any machine
@@ -58,6 +58,44 @@ def project_text(row: Row) -> bytes:
 
 
 @dataclass(frozen=True)
+class Recipe:
+    """What a search with one job is asked for. It ends by its conflicts, so it is the same on any machine."""
+
+    conflicts: int
+    seed: int | None = None
+    start: str = ""  # a text of starts
+
+    def words(self, folder: pathlib.Path) -> list[object]:
+        """Of the command; the starts are written into the folder."""
+        told: list[object] = ["--conflicts", self.conflicts, "--seconds", EVER]
+        if self.seed is not None:
+            told += ["--seed", self.seed]
+        if self.start:
+            (folder / "start").write_text(self.start)
+            told += ["--start", folder / "start"]
+        return told
+
+
+def read_recipe(path: pathlib.Path) -> Recipe:
+    """An object of JSON: the conflicts, and perhaps a seed and a text of starts."""
+    try:
+        told = json.loads(path.read_bytes())
+        is_right = {"conflicts"} <= told.keys() <= {"conflicts", "seed", "start"}
+        made = Recipe(**told) if is_right else None
+    except (OSError, ValueError, AttributeError) as fault:
+        raise BadInput(f"{path}: {fault}") from None
+    if made is None or type(made.conflicts) is not int or type(made.seed) not in (int, type(None)):
+        raise BadInput(f"{path}: a recipe has conflicts, and perhaps a seed and a start, which is a text of starts")
+    return Recipe(made.conflicts, made.seed, f"{made.start}")
+
+
+def recipe_of(name: str, limit: int | str) -> Recipe:
+    """The one that was submitted for a project, or else a search within so many conflicts."""
+    path = RECIPES / f"{name}.json"
+    return read_recipe(path) if path.exists() else Recipe(int(limit))
+
+
+@dataclass(frozen=True)
 class Search:
     """What came out of a search within so many conflicts."""
 
@@ -71,12 +109,12 @@ class Search:
         return known | {"seconds": f"{self.seconds:.2f}", "bytes": f"{len(self.record)}", "record": digest(self.record)}
 
 
-def search(program: pathlib.Path, text: bytes, limit: int) -> Search:
+def search(program: pathlib.Path, text: bytes, recipe: Recipe) -> Search:
     """What a search finds. Its record is trimmed."""
     with tempfile.TemporaryDirectory() as folder:
         project, record = (pathlib.Path(folder) / name for name in ("project", "record"))
         project.write_bytes(text)
-        words = [program, "solve", "--json", "--conflicts", limit, "--seconds", EVER, "--record", record]
+        words = [program, "solve", "--json", "--record", record, *recipe.words(pathlib.Path(folder))]
         ran = measuring.run(words, text)
         if ran.status not in (0, 3) or not record.exists():
             raise Failed(f"{program} solve: exit status {ran.status}")
@@ -111,19 +149,24 @@ def computed(program: pathlib.Path, version: str, listed: Listed, published: dic
              source: str) -> tuple[Row, bytes | None]:
     """The row of a project, whose record `psprove verify` has accepted; the record too if it is small, which the other
     checker has accepted as well."""
-    text = text_of(listed.words)
-    found = search(program, text, listed.limit)
+    text, recipe = text_of(listed.words), recipe_of(listed.name, listed.limit)
+    found = search(program, text, recipe)
     known = published.get(listed.name)
     row = {
-        "name": listed.name, "family": listed.family, "words": listed.words, "limit": str(listed.limit),
+        "name": listed.name, "family": listed.family, "words": listed.words, "limit": f"{recipe.conflicts}",
         "published": str(known.upper) if known else "", "source": source, "project": digest(text),
         "version": version, **measures.measured(parse(text)), **found.columns(),
     }
     wrong = contradictions({**row, "project": listed.name}, published)
     if wrong:
         raise BadInput("; ".join(wrong))
-    must_prove(row, by_program(program, text, found.record), "psprove verify")
-    if len(found.record) >= SMALL:
-        return row, None
-    must_prove(row, by_script(text, found.record), "verify_log.py")
-    return row, found.record
+    return row, accepted(program, row, text, found.record)
+
+
+def accepted(program: pathlib.Path, row: Row, text: bytes, record: bytes) -> bytes | None:
+    """The record if it is small, once `psprove verify` has accepted it, and a small one the other checker as well."""
+    must_prove(row, by_program(program, text, record), "psprove verify")
+    if len(record) >= SMALL:
+        return None
+    must_prove(row, by_script(text, record), "verify_log.py")
+    return record

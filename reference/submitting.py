@@ -3,7 +3,11 @@
 Takes a record that proves more than the table has: FILE is NAME.log, a log of lemmas by any program for the project of
 the row NAME. `psprove verify` has to accept it. The row then has its status, its makespan (that of the last schedule of
 the log), its bound and its digest, and the record goes into reference/records. All records there have 3 MB together at
-most."""
+most.
+
+Or FILE is NAME.json, a recipe of such a record, which may be of any length: {"conflicts": 500000}, with "seed": 7 or
+"start": "0 0\\n1 3\\n..", the schedule to start from, where the search has them. It is searched anew with one job, and
+goes into reference/recipes if that proves more."""
 import argparse
 import io
 import pathlib
@@ -16,7 +20,7 @@ from psmax.planner.published import contradictions, read_published
 from psmax.record import PROVED
 
 from . import page, searches, values
-from .values import PUBLISHED, RECORDS, SUBMITTED, Row
+from .values import PUBLISHED, RECIPES, RECORDS, SUBMITTED, Row
 
 MOST = 3_000_000  # bytes of all records together
 
@@ -49,18 +53,38 @@ def must_have_room(name: str, record: bytes) -> None:
                        f"others have {others}")
 
 
-def submit(file: pathlib.Path, program: pathlib.Path) -> Row:
-    searches.version_of(program)
-    old = values.row_of(file.stem)
+def by_record(old: Row, program: pathlib.Path, file: pathlib.Path) -> Row:
     record = read_bytes(str(file), None)
     must_have_room(file.stem, record)
     row = proved(old, record, searches.by_program(program, searches.project_text(old), record))
+    must_prove_more(row, old)
+    write_whole(str(RECORDS / f"{row['name']}.log"), record)
+    (RECIPES / f"{row['name']}.json").unlink(missing_ok=True)
+    return row
+
+
+def by_recipe(old: Row, program: pathlib.Path, file: pathlib.Path) -> Row:
+    recipe, text = searches.read_recipe(file), searches.project_text(old)
+    found = searches.search(program, text, recipe)
+    row = {**old, **found.columns(), "limit": f"{recipe.conflicts}", "version": searches.version_of(program)}
+    must_prove_more(row, old)
+    values.keep_record(row["name"], searches.accepted(program, row, text, found.record))
+    RECIPES.mkdir(exist_ok=True)
+    write_whole(str(RECIPES / f"{row['name']}.json"), file.read_bytes())
+    return row
+
+
+def must_prove_more(row: Row, old: Row) -> None:
     wrong = contradictions({**row, "project": row["name"]}, read_published(str(PUBLISHED)))
     if wrong:
         raise BadInput("; ".join(wrong))
     if values.rank(row) <= values.rank(old):
         raise BadInput(f"{row['name']}: the record proves no more than the table has: {values.known(old)}")
-    write_whole(str(RECORDS / f"{row['name']}.log"), record)
+
+
+def submit(file: pathlib.Path, program: pathlib.Path) -> Row:
+    searches.version_of(program)
+    row = (by_recipe if file.suffix == ".json" else by_record)(values.row_of(file.stem), program, file)
     values.write({**values.read(), row["name"]: row}.values())
     page.write()
     return row

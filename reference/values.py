@@ -8,7 +8,8 @@ from psmax.planner.csv_text import cell, read_sheet, write_sheet
 
 from . import TOP
 
-VALUES, RECORDS, PUBLISHED = (TOP / "reference" / name for name in ("values.csv", "records", "published.csv"))
+VALUES, RECORDS, RECIPES, PUBLISHED = (
+    TOP / "reference" / name for name in ("values.csv", "records", "recipes", "published.csv"))
 HEADS = ["name", "family", "words", "activities", "resources", "arcs", "order strength", "resource strength",
          "status", "makespan", "bound", "published", "source", "project",
          "limit", "conflicts", "seconds", "bytes", "record", "version"]
@@ -30,6 +31,15 @@ def read(table: pathlib.Path = VALUES) -> dict[str, Row]:
 
 def write(rows: Iterable[Row], table: pathlib.Path = VALUES) -> None:
     write_whole(str(table), write_sheet([HEADS, *([row[head] for head in HEADS] for row in rows)]).encode())
+
+
+def keep_record(name: str, record: bytes | None) -> None:
+    """A small record stands in the repository; where there is none, nothing does that stood there before."""
+    path = RECORDS / f"{name}.log"
+    if record is not None:
+        write_whole(str(path), record)
+    else:
+        path.unlink(missing_ok=True)
 
 
 def row_of(name: str) -> Row:

@@ -145,7 +145,7 @@ def changed(value: str) -> str:
 
 def edits(program: pathlib.Path, row: Row) -> Iterator[Verdict]:
     """A row that is right, and what is found once it is changed."""
-    found = searches.search(program, searches.project_text(row), int(row["limit"]))
+    found = searches.search(program, searches.project_text(row), searches.Recipe(int(row["limit"])))
     version = searches.version_of(program)
     fresh = {**row, **found.columns(), "version": version}
     yield "a row as it is", "; ".join(checking.differences(fresh, found.columns(), version)) or None
@@ -166,6 +166,7 @@ def copied(folder: pathlib.Path) -> None:
         shutil.copytree(TOP / name, folder / name, ignore=shutil.ignore_patterns("__pycache__"))
     (folder / "docs").mkdir()
     shutil.copy(page.PAGE, folder / "docs")
+    shutil.copy(page.CITATION, folder)
 
 
 def submissions(program: pathlib.Path, rows: Mapping[str, Row], row: Row) -> Iterator[Verdict]:
@@ -188,6 +189,34 @@ def submissions(program: pathlib.Path, rows: Mapping[str, Row], row: Row) -> Ite
         same = {**row, "version": SUBMITTED, "limit": "", "conflicts": "", "seconds": ""}
         there = values.read(table)[row["name"]]
         yield "submitted: the row", None if there == same else f"{there}"
+        values.write({**rows, row["name"]: weak}.values(), table)
+        yield from recipes(program, row, folder)
+
+
+def recipes(program: pathlib.Path, row: Row, folder: pathlib.Path) -> Iterator[Verdict]:
+    """Recipes that are submitted to the copy in a folder; then the row of one is checked."""
+    file, table = folder / f"{row['name']}.json", folder / "reference" / values.VALUES.name
+    for text, status in (
+        ("{", 1), ("[7]", 1), ('{"seed": 7}', 1), ('{"conflicts": "9"}', 1), ('{"conflicts": 9, "jobs": 2}', 1),
+        ('{"conflicts": 80000, "start": "0 1\\n"}', 1), ('{"conflicts": 80000, "seed": 7}', 0),
+        ('{"conflicts": 80000}', 1),
+    ):
+        file.write_text(text)
+        before = table.read_bytes()
+        ended = harness.ended([folder / "reference" / "submit", file, "--psprove", program])
+        is_right = ended[0] == status and (table.read_bytes() == before) == (status > 0)
+        yield f"submitted: the recipe {text}", None if is_right and b"Traceback" not in ended[2] else f"{ended}"
+    there = values.read(table)[row["name"]]
+    plain = searches.search(program, searches.project_text(row), searches.Recipe(80_000)).columns()
+    is_right = values.claim(there) == values.claim(row) and there["version"] == searches.version_of(program)
+    yield "submitted: the row of a recipe", None if is_right and there["record"] != plain["record"] else f"{there}"
+    checkers = "psprove verify", "tests/verify_log.py"
+    for count in 1, 2:
+        words = [folder / "reference" / "check", row["name"], "--psprove", program, "--second"]
+        told = harness.ended(words[:count + 3])[1].decode()
+        said = [f"{by}: {values.claim(row)}" for by in checkers[:count]]
+        is_right = told.splitlines()[2:] == said and "the record that the table has" in told
+        yield f"checked by a recipe, by {said}", None if is_right else told
 
 
 def listed(rows: Mapping[str, Row]) -> str | None:
@@ -222,7 +251,8 @@ def verdicts(words: Sequence[str]) -> Verdicts:
     drawn = random.Random(o.seed).sample(quick, min(o.drawn, len(quick)))
     names = (f"{row['name']}, anew" for row in drawn)
     yield from zip(names, harness.side_by_side(lambda row: search_fault(program, row), drawn))
-    small = next(row for row in quick if row["status"] == "optimal" and row["limit"])
+    small = next(row for row in quick if row["status"] == "optimal" and int(row["conflicts"] or 0) > 50
+                 and int(row["bytes"]) < searches.SMALL)
     yield from edits(program, small)
     yield from submissions(program, rows, small)
     other = sorted({row["version"] for row in rows.values()} - {searches.version_of(program), SUBMITTED})
