@@ -344,8 +344,7 @@ class Parts:
             (0, *(one.duration for one in self.activities), 0), tuple(rows),
             tuple(one.capacity for one in self.resources),
             tuple(arcs), tuple(Away(one.resource.number, one.begins, one.ends, one.units) for one in self.absences),
-            due, goal,
-            tuple(one for lag in self.lags for one in self.dated(lag)))
+            due, goal, tuple(one for lag in self.lags for one in self.dated(lag)))
         crews = self.crews()
         return found if crews is None else with_hours(found, crews, None)
 

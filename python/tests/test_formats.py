@@ -169,6 +169,8 @@ class Formats(InFolder):
         self.assertEqual(psmax.Project.read(self.folder / "library" / "a1.txt").numbers().durations, (0, 3, 2, 2, 4, 0))
         self.assertEqual({name: (one.lower, one.upper) for name, one in read_published(str(taillard)).items()},
                          {"tai2-1": (7, 99), "tai2-2": (6, 98)})
+        with self.assertRaisesRegex(psmax.BadInput, "the text: the text ends before the number of jobs"):
+            psmax.Project.read("my own\nwords\n", "job-shop")
         twice = self.file("twice.txt", library.read_text().replace("b-2", "a1"))
         self.refused(plan("read", twice, "--out", f"{self.folder}/"), 2, "two instances are called a1")
         bad = self.file("bad.txt", taillard.read_text().replace("98 6\nTimes\n 3", "98 6\nTimes\n -3"))

@@ -101,10 +101,14 @@ def read(data: bytes, project: Parts, called: str, name: str | None = None) -> F
     return one
 
 
+def is_shop(text: str) -> bool:
+    return any(FORMATS[name].is_like(text) for name in SHOPS)
+
+
 def pieces(text: str, called: str) -> dict[str, str]:
-    """The instances of a text of the OR-Library or of Taillard's, by their names, or else by what the text is called
-    and their number; one alone is the text as it is."""
-    places = [*PIECE.finditer(text)] if found(text).name in SHOPS else []
+    """The instances of a text of shops, by their names, or else by what the text is called and their number; one alone
+    is the text as it is."""
+    places = [*PIECE.finditer(text)]
     if len(places) < 2:
         return {called: text}
     ends = [*(place.start() for place in places[1:]), len(text)]

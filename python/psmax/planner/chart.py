@@ -48,8 +48,7 @@ def definitions() -> Element:
     """What `chart.css` names: the head of an arrow, and the hatching of what is away."""
     found = mark("defs")
     head = SubElement(found, "marker", id="head", markerUnits="userSpaceOnUse", markerWidth="9", markerHeight="8",
-                      refX="8",
-                      refY="4", orient="auto")
+                      refX="8", refY="4", orient="auto")
     SubElement(head, "path", d="M0,0 L9,4 L0,8 z", fill="#333")
     hatch = SubElement(found, "pattern", id="hatch", width="6", height="6", patternTransform="rotate(45)",
                        patternUnits="userSpaceOnUse")

@@ -18,8 +18,7 @@ LAG = re.compile(rf"(?:(?:FS|SS|FF|SF|EA|AA|EE|AE)\s*[-+]|<=?|\u2264)\s*"
                  rf"({PARTS}(?=\s*(?:(?:{'|'.join(WORDS)})\b|%))|\d+\.\d+(?![\d.,]))", re.I)
 THOUSANDS = re.compile(r"[1-9]\d{0,2}([.,])\d{3}(?:\1\d{3})*")
 LENGTHS = (Column.DURATION, Column.REMAINING, Column.DONE, Column.AT_LEAST, Column.AT_MOST, Column.NOT_BEFORE,
-           Column.END_BY,
-           Column.DUE, Column.STARTED, Column.FINISHED)
+           Column.END_BY, Column.DUE, Column.STARTED, Column.FINISHED)
 
 
 @dataclass(frozen=True)

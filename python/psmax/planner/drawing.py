@@ -81,8 +81,7 @@ class Details:
 
 
 def make(opened: ProjectFile, starts: tuple[int, ...], title: str, notes: tuple[str, ...] = (),
-         known: Details = Details(),
-         is_plan: bool = True) -> Drawing:
+         known: Details = Details(), is_plan: bool = True) -> Drawing:
     project = opened.project
     begins = min(0, *starts[:-1])
     due = [time for time in project.due.values() if time > 0]

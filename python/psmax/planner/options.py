@@ -12,8 +12,7 @@ from ..errors import BadInput
 from ..project import MOST_UNITS
 from .csv_text import SEPARATORS
 from .shared_options import (MOST_JOBS, SECONDS, add_limits, add_project, add_schedule, add_settings, add_start,
-                             whole_number,
-                             opened, number_of_seconds, settings, start)
+                             whole_number, opened, number_of_seconds, settings, start)
 
 if TYPE_CHECKING:
     from .write import SheetOptions
@@ -329,8 +328,7 @@ def run_batch(options: argparse.Namespace) -> int:
     if options.join is not None:
         return batch_table.join_tables(options.join, options.csv)
     return batch.batch(batch.Batch(options.folders, options.seconds, options.jobs, options.part, options.csv,
-                                   options.out,
-                                   options.record, options.known))
+                                   options.out, options.record, options.known))
 
 
 ABOUT = "Plans projects with psmax and psprove. They check or prove every claim."

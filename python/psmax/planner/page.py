@@ -80,8 +80,7 @@ class Page:
             "definitions": markup(definitions(), holding("g", chart.grid(LOAD), id="grid")),
             "ruler": markup(picture(chart.ruler_height, chart.ruler())),
             "arrows": markup(mark("svg", width=chart.width, height=0),
-                             picture(height, chart.grid(height), kind="behind"),
-                             picture(chart.height, arrows)),
+                             picture(height, chart.grid(height), kind="behind"), picture(chart.height, arrows)),
             "heads": markup(*self.lists.heads()), "chain": markup(*self.lists.chain()),
             "total": escape(self.said_of_total()), "digest": escape(self.view.digest),
         }

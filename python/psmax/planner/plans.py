@@ -135,6 +135,5 @@ def contents(plan: Plan, stem: str) -> dict[str, bytes]:
                 found, files[f"{stem}.record"] = judgement, record.data
     view = View(opened, starts, proof(answer, found), found is not None and found.bound == answer.value,
                 plan.windows or windows(opened.project, starts, psmax), plan.total,
-                headline=headline_of(answer, found, opened),
-                digest=describe_digest(found))
+                headline=headline_of(answer, found, opened), digest=describe_digest(found))
     return files | {f"{stem}.html": render_page(view, "A4"), f"{stem}-table.csv": opened.text.encode()}

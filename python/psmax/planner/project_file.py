@@ -227,8 +227,7 @@ def of_table(path: str, found: Table, sources: dict[str, str], text: str) -> Pro
         begin = found.calendar.begins(0)
         found.calendar.style = style_of([*cells, found.settings.first or ""], found.settings.dates, begin)
     return ProjectFile(path, found.project, found.names, found.settings, found.calendar, sources, found,
-                       sheet.separator,
-                       found.mornings, decimal_sign(cells), text)
+                       sheet.separator, found.mornings, decimal_sign(cells), text)
 
 
 def open_text(path: str, data: bytes, words: Settings, page: str | None) -> ProjectFile:

@@ -41,7 +41,7 @@ def read(path: str, out: str | None, wanted: str | None, words: Settings) -> int
     formats.must_be_readable(path, data)
     text = decoded(data)
     is_sch = pathlib.Path(path).suffix.lower() == PSPLIB or formats.FORMATS["sch"].is_like(text)
-    if is_other(text) and out is not None and (out.endswith("/") or os.path.isdir(out)):
+    if out is not None and (out.endswith("/") or os.path.isdir(out)) and formats.is_shop(text):
         return write_pieces(path, text, out)
     if is_other(text) or is_sch and wanted not in (None, "sch"):
         return convert(path, out, wanted or "sch")

@@ -71,8 +71,7 @@ def report(opened: ProjectFile, given: str | None, start: Start, options: Report
     total = Total(options.seconds, options.jobs, start).of(opened, answer.starts)
     is_shortest = found is not None and found.bound == answer.value
     view = View(opened, answer.starts, proof(answer, found), is_shortest, windows(opened.project, answer.starts, psmax),
-                total,
-                was, headline=headline_of(answer, found, opened), digest=describe_digest(found))
+                total, was, headline=headline_of(answer, found, opened), digest=describe_digest(found))
     write_whole(options.out, render_page(view, options.paper))
     return 3 if total.open() else 0
 

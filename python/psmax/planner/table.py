@@ -169,8 +169,7 @@ class Reading:
         notes += [said_of_history(arc, called) for arc in broken]
         mornings = lags.activities.mornings
         return Table(project, names, self.settings, terms.calendar, (*self.parts.values(),), mornings, progress,
-                     terms.scale,
-                     tuple(row.number for row in self.rows), tuple(notes), above, terms.columns,
+                     terms.scale, tuple(row.number for row in self.rows), tuple(notes), above, terms.columns,
                      terms.head_row, crews, pauses)
 
     def with_crews(self, project: Numbers, crews: Crews | None, cuts: Cuts | None) -> tuple[Numbers, tuple[Arc, ...]]:
