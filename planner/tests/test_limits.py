@@ -102,14 +102,12 @@ class Hostile(InFolder):
         self.addCleanup(watch.__exit__, None, None, None)
         watch.until(done("optimal 3"))
         place = urlsplit(watch.address)
-        before = cost(watch.child.pid)
+        before, room = cost(watch.child.pid), most_memory(watch.child.pid)
         for piece in hostile_texts.PIECES.values():
             for name in ("whatif", "keep", "back"):
                 self.assertEqual(self.posted(place.netloc, f"{place.path}{name}", filled(piece)), 403)
         self.assertLess(cost(watch.child.pid) - before, SECONDS)
-        with open(f"/proc/{watch.child.pid}/status") as status:
-            most = next(int(line.split()[1]) // 1024 for line in status if line.startswith("VmHWM:"))
-        self.assertLess(most, MEGABYTES)
+        self.assertLess(most_memory(watch.child.pid) - room, LONG // 2**20)
         self.assertEqual(watch.ask("GET", place.path)[0], 200)
 
     def posted(self, netloc: str, path: str, body: str) -> int:
@@ -208,6 +206,12 @@ def within_limits(given: object) -> str:
         while given is None:
             pass
         return "x" * given if isinstance(given, int) else f"{given}"
+
+
+def most_memory(process: int) -> int:
+    """The megabytes that it had at most."""
+    with open(f"/proc/{process}/status") as status:
+        return next(int(line.split()[1]) // 1024 for line in status if line.startswith("VmHWM:"))
 
 
 def cost(pid: int) -> float:
