@@ -4,8 +4,9 @@
 Writes a project whose great lags tie activities into groups. FAMILY is
 
 hoist     N parts go through K tanks in one order. A hoist takes each from the loading place to the first tank, from
-          tank to tank and away: one part at a time, in 1 to 3 periods. A part stays 5 to 30 periods in a tank, as long
+          tank to tank and away: one part at a time, in 1 or 2 periods. A part stays 10 to 60 periods in a tank, as long
           as its recipe says and no longer.
+busy      The same with a hoist that is busy: it takes 2 to 4 periods, and a part stays 10 to 40 in a tank.
 blocking  N jobs go through K machines in one order, with no place between these: a job stays on a machine until the
           next one is free, up to 9 periods. Operations take 10 to 40 periods, so no other job fits in between: the
           machine is used again by the period in which the job leaves it.
@@ -32,15 +33,23 @@ class Step(NamedTuple):
 Group = list[Step]
 
 
-def hoist(n: int, k: int, draw: Lehmer) -> list[Group]:
-    moves = [draw.within(1, 3) for _ in range(k + 1)]
+def through_tanks(n: int, k: int, draw: Lehmer, move: tuple[int, int], longest: int) -> list[Group]:
+    moves = [draw.within(*move) for _ in range(k + 1)]
     groups = []
     for _ in range(n):
         steps = [Step(moves[0], k)]
         for tank in range(k):
-            steps += [Step(draw.within(5, 30), tank), Step(moves[tank + 1], k)]
+            steps += [Step(draw.within(10, longest), tank), Step(moves[tank + 1], k)]
         groups.append(steps)
     return groups
+
+
+def hoist(n: int, k: int, draw: Lehmer) -> list[Group]:
+    return through_tanks(n, k, draw, (1, 2), 60)
+
+
+def busy(n: int, k: int, draw: Lehmer) -> list[Group]:
+    return through_tanks(n, k, draw, (2, 4), 40)
 
 
 def blocking(n: int, k: int, draw: Lehmer) -> list[Group]:
@@ -54,11 +63,11 @@ def dies(n: int, k: int, draw: Lehmer) -> list[Group]:
 
 
 FAMILIES: dict[str, Callable[[int, int, Lehmer], list[Group]]] = {
-    "hoist": hoist, "blocking": blocking, "dies": dies}
+    "hoist": hoist, "busy": busy, "blocking": blocking, "dies": dies}
 
 
 def capacities(family: str, k: int) -> list[int]:
-    return {"hoist": [1] * (k + 1), "blocking": [1] * k, "dies": [k, 1, 2]}[family]
+    return {"hoist": [1] * (k + 1), "busy": [1] * (k + 1), "blocking": [1] * k, "dies": [k, 1, 2]}[family]
 
 
 def project(family: str, n: int, k: int, seed: int) -> Project:

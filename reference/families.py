@@ -33,7 +33,7 @@ TIGHTENED = {"assay-lab": (25, 10, 0), "vaccine-lots": (75, 50, 25, 0), "exchang
              "twin-towers": (0,)}
 FLOWS = "12x5", "14x5", "20x5", "30x5", "30x10"
 JOBS = "8x5", "10x8"
-GROUPS = "hoist 10 4", "hoist 14 4", "blocking 8 5", "blocking 12 4", "dies 12 3"
+GROUPS = "hoist 10 4", "hoist 14 4", "busy 10 4", "blocking 8 5", "blocking 12 4", "dies 12 3"
 GROUP_CONFLICTS = 30_000
 SHUTDOWNS = 50, 75, 100, 150, 200
 PLANNERS = sorted(path.stem for path in (TOP / "planner" / "projects").glob("*.sch"))
