@@ -1,5 +1,9 @@
 //! The arguments of a program, by `clap`, and why they are no call.
 
+ghost use Rattle.std.specs.Prelude.{◌≡◌, IfOk, Some};
+ghost use Rattle.clap.specs.Words.{found_of};
+ghost use Rattle.command_line.specs.Found.{IsFlag, IsNumber, Names};
+
 use clap::error::ErrorKind;
 use clap::{ArgMatches, Command};
 use std::alloc::{AllocError, Global};
@@ -93,9 +97,32 @@ pub fn file_name(
     alloc: Global,
     matches: &ArgMatches<'_>,
     option: &str,
-) -> Result<Option<String>, AllocError> {
+) -> Result<Option<String>, AllocError>
+    ensures { IfOk result (Names (found_of matches.now) option.now) }
+{
     match matches.get_str(option) {
         Some(name) => Ok(Some(String::from_str(alloc, name)?)),
         None => Ok(None),
     }
+}
+
+/// Whether a flag is there.
+pub fn has_flag(matches: &ArgMatches<'_>, option: &str) -> bool
+    ensures { IsFlag (found_of matches.now) option.now result }
+{
+    matches.get_flag(option)
+}
+
+/// The number that an option gives, if it is there.
+pub fn number_of(matches: &ArgMatches<'_>, option: &str) -> Option<u64>
+    ensures { IsNumber (found_of matches.now) option.now result }
+{
+    matches.get_one::<u64>(option)
+}
+
+/// How many an option gives, if it is there.
+pub fn count_of(matches: &ArgMatches<'_>, option: &str) -> Option<usize>
+    ensures { IsNumber (found_of matches.now) option.now result }
+{
+    matches.get_one::<usize>(option)
 }

@@ -9,7 +9,7 @@ mod part_file;
 mod program;
 mod verifying;
 
-pub use arguments::{ArgumentsFault, file_name, matches_of};
+pub use arguments::{ArgumentsFault, count_of, file_name, has_flag, matches_of, number_of};
 pub use options::{file, flag, heading, number, program_command, project_subcommand, subcommand};
 pub use part_file::PartFile;
 pub use program::{FOLDER, read_arguments, refuse, refuse_file, refuse_files, refuse_part, report};

@@ -1,6 +1,10 @@
 //! The command `verify`, which both programs have.
 
-use crate::arguments::{ArgumentsFault, file_name};
+ghost use Rattle.std.specs.Prelude.{◌≡◌, IfOk, IfSome};
+ghost use Rattle.clap.specs.Words.{found_of};
+ghost use Rattle.command_line.specs.Found.{IsScopeOf, IsVerifyOf, NamesPart};
+
+use crate::arguments::{ArgumentsFault, file_name, has_flag};
 use crate::help;
 use crate::options::{flag, project_subcommand};
 use crate::program::{refuse_files, report};
@@ -15,8 +19,8 @@ use verify_run::{LogPart, RecordKind, Scope, run_verify};
 /// A check of the record on standard input: the file of its project, and what of the record is checked.
 #[derive(Debug, Drop)]
 pub struct VerifyCall {
-    project: String,
-    scope: Scope,
+    pub project: String,
+    pub scope: Scope,
 }
 
 /// The command `verify` under a program's heading.
@@ -35,7 +39,9 @@ pub fn verify_command<'a>(alloc: Global, heading: &'a str) -> Result<Command<'a>
 }
 
 /// The part that a word names, as `2/8`.
-fn part_of(word: &str) -> Option<LogPart> {
+fn part_of(word: &str) -> Option<LogPart>
+    ensures { IfSome result (NamesPart word.now) }
+{
     let (number, count) = word.split_once('/')?;
     LogPart::new(number.parse().ok()?, count.parse().ok()?)
 }
@@ -49,9 +55,11 @@ fn no_part(alloc: Global, word: &str) -> Result<ArgumentsFault, AllocError> {
 }
 
 /// What of a record is to be checked.
-fn scope_of(alloc: Global, matches: &ArgMatches<'_>) -> Result<Scope, ArgumentsFault> {
+fn scope_of(alloc: Global, matches: &ArgMatches<'_>) -> Result<Scope, ArgumentsFault>
+    ensures { IfOk result (IsScopeOf (found_of matches.now)) }
+{
     let Some(word) = file_name(alloc, matches, "part")? else {
-        return Ok(match matches.get_flag("partial") {
+        return Ok(match has_flag(matches, "partial") {
             true => Scope::SoFar,
             false => Scope::Whole,
         });
@@ -66,7 +74,9 @@ fn scope_of(alloc: Global, matches: &ArgMatches<'_>) -> Result<Scope, ArgumentsF
 pub fn verify_call(
     alloc: Global,
     matches: &ArgMatches<'_>,
-) -> Result<Option<VerifyCall>, ArgumentsFault> {
+) -> Result<Option<VerifyCall>, ArgumentsFault>
+    ensures { IfOk result (λ call. IfSome call (IsVerifyOf (found_of matches.now))) }
+{
     let Some(project) = file_name(alloc, matches, "project")? else {
         return Ok(None);
     };

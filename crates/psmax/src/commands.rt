@@ -1,7 +1,9 @@
 //! The commands of psmax and their options, by `clap`.
 
 ghost use Rattle.std.specs.Prelude.{◌≡◌, true, false, IfOk, IfSome};
-ghost use Rattle.psmax.specs.Calls.{IsCall, IsPsmaxCall};
+ghost use Rattle.clap.specs.Words.{found_of};
+ghost use Rattle.psmax.specs.Calls.{IsCall, IsCallOf, IsCheckOf, IsPsmaxCall, IsSolveOf, IsWorkOf};
+ghost use Rattle.psmax_run.specs.declared.job.Job.TheVariants as jobs;
 ghost use Rattle.psmax_run.specs.Jobs.{IsJob, reads_second, writes_record};
 
 use crate::call::{Call, JobNames, PsmaxCall};
@@ -9,8 +11,8 @@ use crate::help;
 use book::{MAX_WORKERS, are_allowed};
 use clap::{ArgMatches, Command};
 use command_line::{
-    ArgumentsFault, file, file_name, flag, heading, matches_of, number, program_command,
-    project_subcommand, subcommand, verify_call, verify_command,
+    ArgumentsFault, count_of, file, file_name, flag, has_flag, heading, matches_of, number,
+    number_of, program_command, project_subcommand, subcommand, verify_call, verify_command,
 };
 use plain_search::MAX_EXPANDED;
 use psmax_run::{Job, ONE_WORKER, SearchOptions};
@@ -55,7 +57,8 @@ fn program<'a>(alloc: Global, heading: &'a str) -> Result<Command<'a>, AllocErro
 }
 
 fn earliest_call() -> Call
-    ensures { IsCall result }
+    ensures call { IsCall result }
+    ensures job { result.job ≡ jobs.Earliest }
 {
     Call {
         job: Job::Earliest,
@@ -68,10 +71,11 @@ fn earliest_call() -> Call
 
 /// The call of a search. None if its numbers are out of their ranges, which `clap` doesn't let pass.
 fn solve_call(alloc: Global, matches: &ArgMatches<'_>) -> Result<Option<Call>, AllocError>
-    ensures { IfOk result (λ call. IfSome call IsCall) }
+    ensures call { IfOk result (λ call. IfSome call IsCall) }
+    ensures of { IfOk result (λ call. IfSome call (IsSolveOf (found_of matches.now))) }
 {
-    let workers = matches.get_one::<usize>("workers");
-    let nodes = matches.get_one::<u64>("nodes").unwrap_or(0);
+    let workers = count_of(matches, "workers");
+    let nodes = number_of(matches, "nodes").unwrap_or(0);
     if !are_allowed(workers.unwrap_or(ONE_WORKER), nodes) {
         return Ok(None);
     }
@@ -82,7 +86,7 @@ fn solve_call(alloc: Global, matches: &ArgMatches<'_>) -> Result<Option<Call>, A
             workers,
             nodes,
             start: second.is_some(),
-            json: matches.get_flag("json"),
+            json: has_flag(matches, "json"),
             recorded: record_file.is_some(),
         }),
         names: JobNames {
@@ -94,7 +98,8 @@ fn solve_call(alloc: Global, matches: &ArgMatches<'_>) -> Result<Option<Call>, A
 
 /// The call that checks starts. None if the project's file isn't named, which `clap` doesn't let pass.
 fn check_call(alloc: Global, matches: &ArgMatches<'_>) -> Result<Option<Call>, AllocError>
-    ensures { IfOk result (λ call. IfSome call IsCall) }
+    ensures call { IfOk result (λ call. IfSome call IsCall) }
+    ensures of { IfOk result (λ call. IfSome call (IsCheckOf (found_of matches.now))) }
 {
     let Some(name) = file_name(alloc, matches, "project")? else {
         return Ok(None);
@@ -109,7 +114,8 @@ fn check_call(alloc: Global, matches: &ArgMatches<'_>) -> Result<Option<Call>, A
 }
 
 fn tidy_call() -> Call
-    ensures { IsCall result }
+    ensures call { IsCall result }
+    ensures job { result.job ≡ jobs.Tidy }
 {
     Call {
         job: Job::Tidy,
@@ -122,7 +128,8 @@ fn tidy_call() -> Call
 
 /// The call of a job that the matches make. None if words make no call, which `clap` doesn't let pass.
 fn found_call(alloc: Global, matches: &ArgMatches<'_>) -> Result<Option<Call>, AllocError>
-    ensures { IfOk result (λ call. IfSome call IsCall) }
+    ensures call { IfOk result (λ call. IfSome call IsCall) }
+    ensures of { IfOk result (λ call. IfSome call (IsCallOf matches.now)) }
 {
     match matches.subcommand() {
         Some(("earliest", _)) => Ok(Some(earliest_call())),
@@ -135,10 +142,14 @@ fn found_call(alloc: Global, matches: &ArgMatches<'_>) -> Result<Option<Call>, A
 
 /// What the matches ask for.
 fn found(alloc: Global, matches: &ArgMatches<'_>) -> Result<Option<PsmaxCall>, ArgumentsFault>
-    ensures { IfOk result (λ call. IfSome call IsPsmaxCall) }
+    ensures call { IfOk result (λ call. IfSome call IsPsmaxCall) }
+    ensures of { IfOk result (λ call. IfSome call (IsWorkOf matches.now)) }
 {
     if let Some(("verify", found)) = matches.subcommand() {
-        return Ok(verify_call(alloc, found)?.map(PsmaxCall::Verify));
+        return match verify_call(alloc, found)? {
+            Some(call) => Ok(Some(PsmaxCall::Verify(call))),
+            None => Ok(None),
+        };
     }
     Ok(found_call(alloc, matches)?.map(PsmaxCall::Run))
 }
