@@ -1,13 +1,20 @@
 //! The commands of psprove and their options, by `clap`.
 
+ghost use Rattle.std.specs.Prelude.{◌≡◌, Some, IfOk, IfSome, codes, string_bytes, unwrap_or};
+ghost use Rattle.clap.specs.Words.{found_of};
+ghost use Rattle.clap.specs.Matches.{first_value};
+ghost use Rattle.command_line.specs.Found.{IsNumberOr};
+ghost use Rattle.psprove.specs.Calls.{AreLimits, IsCubeOf, IsFormOf, IsJoinOf, IsSearchOf, IsSolveOf, IsWorkOf};
+
 use crate::cube::CubeCall;
 use crate::reports::ReportForm;
 use crate::solve::SolveCall;
 use crate::{PROGRAM, help};
 use clap::{Arg, ArgMatches, Command};
 use command_line::{
-    ArgumentsFault, VerifyCall, file, file_name, flag, heading, matches_of, number,
-    program_command, project_subcommand, read_arguments, subcommand, verify_call, verify_command,
+    ArgumentsFault, VerifyCall, file, file_name, flag, has_flag, heading, matches_of, number,
+    number_of, program_command, project_subcommand, read_arguments, subcommand, verify_call,
+    verify_command,
 };
 use psprove_run::SolveOptions;
 use session::{Limits, MAX_JOBS};
@@ -159,7 +166,9 @@ fn program<'a>(alloc: Global, heading: &'a str) -> Result<Command<'a>, AllocErro
 }
 
 /// The form of reports.
-fn form(alloc: Global, matches: &ArgMatches<'_>) -> Result<ReportForm, AllocError> {
+fn form(alloc: Global, matches: &ArgMatches<'_>) -> Result<ReportForm, AllocError>
+    ensures { IfOk result (IsFormOf (first_value (found_of matches.now) (codes "progress"))) }
+{
     let word = file_name(alloc, matches, "progress")?;
     Ok(match word.as_deref() {
         None => ReportForm::Nothing,
@@ -168,27 +177,42 @@ fn form(alloc: Global, matches: &ArgMatches<'_>) -> Result<ReportForm, AllocErro
     })
 }
 
-/// How far a search goes.
-fn limits_of(matches: &ArgMatches<'_>) -> Limits {
-    let memory = matches.get_one::<u64>("memory").unwrap_or(1);
+/// The number that an option gives, or another one.
+fn number_or(matches: &ArgMatches<'_>, option: &str, otherwise: u64) -> u64
+    ensures { IsNumberOr otherwise (found_of matches.now) option.now result }
+{
+    number_of(matches, option).unwrap_or(otherwise)
+}
+
+/// How far a search goes, with one job.
+fn limits_of(matches: &ArgMatches<'_>) -> Limits
+    ensures limits { AreLimits (found_of matches.now) result }
+    ensures jobs { result.jobs ≡ 1 }
+{
+    let memory = number_or(matches, "memory", 1);
     Limits {
-        jobs: matches.get_one::<u64>("jobs").unwrap_or(1),
-        conflicts: matches.get_one::<u64>("conflicts").unwrap_or(u64::MAX),
-        seconds: matches.get_one::<u64>("seconds").unwrap_or(0),
-        seed: matches.get_one::<u64>("seed").unwrap_or(0),
+        jobs: 1,
+        conflicts: number_or(matches, "conflicts", u64::MAX),
+        seconds: number_or(matches, "seconds", 0),
+        seed: number_or(matches, "seed", 0),
         memory: memory.saturating_mul(1 << 20),
-        below: matches.get_one::<u64>("below"),
+        below: number_of(matches, "below"),
     }
 }
 
 /// A search, and the names of its files.
-fn search_of(alloc: Global, matches: &ArgMatches<'_>) -> Result<SolveCall, AllocError> {
+fn search_of(alloc: Global, matches: &ArgMatches<'_>) -> Result<SolveCall, AllocError>
+    ensures { IfOk result (IsSearchOf (found_of matches.now)) }
+{
     let start = file_name(alloc, matches, "start")?;
     Ok(SolveCall {
         options: SolveOptions {
-            limits: limits_of(matches),
+            limits: Limits {
+                jobs: number_or(matches, "jobs", 1),
+                ..limits_of(matches)
+            },
             start: start.is_some(),
-            json: matches.get_flag("json"),
+            json: has_flag(matches, "json"),
         },
         form: form(alloc, matches)?,
         start,
@@ -196,19 +220,21 @@ fn search_of(alloc: Global, matches: &ArgMatches<'_>) -> Result<SolveCall, Alloc
         tree: None,
         record: file_name(alloc, matches, "record")?,
         until: file_name(alloc, matches, "until")?,
-        follow: matches.get_flag("follow"),
+        follow: has_flag(matches, "follow"),
         project: file_name(alloc, matches, "project")?,
     })
 }
 
 /// A join of records: nothing is searched.
-fn join_of(alloc: Global, matches: &ArgMatches<'_>) -> Result<SolveCall, AllocError> {
+fn join_of(alloc: Global, matches: &ArgMatches<'_>) -> Result<SolveCall, AllocError>
+    ensures { IfOk result (IsJoinOf (found_of matches.now)) }
+{
     let start = file_name(alloc, matches, "start")?;
     Ok(SolveCall {
         options: SolveOptions {
             limits: Limits::NO_SEARCH,
             start: start.is_some(),
-            json: matches.get_flag("json"),
+            json: has_flag(matches, "json"),
         },
         form: ReportForm::Nothing,
         start,
@@ -222,19 +248,21 @@ fn join_of(alloc: Global, matches: &ArgMatches<'_>) -> Result<SolveCall, AllocEr
 }
 
 /// The name that an option has to have.
-fn needed_name(alloc: Global, matches: &ArgMatches<'_>, name: &str) -> Result<String, AllocError> {
+fn needed_name(alloc: Global, matches: &ArgMatches<'_>, name: &str) -> Result<String, AllocError>
+    ensures { IfOk result (λ found.
+        string_bytes found ≡ unwrap_or (first_value (found_of matches.now) name.now) (codes "")) }
+{
     Ok(file_name(alloc, matches, name)?.unwrap_or(String::new(alloc)))
 }
 
 /// A search of the cube whose path is in a file.
-fn cube_of(alloc: Global, matches: &ArgMatches<'_>, path: String) -> Result<CubeCall, AllocError> {
-    let limits = Limits {
-        jobs: 1,
-        ..limits_of(matches)
-    };
+fn cube_of(alloc: Global, matches: &ArgMatches<'_>, path: String) -> Result<CubeCall, AllocError>
+    requires { first_value (found_of matches.now) (codes "under") ≡ Some (string_bytes path) }
+    ensures { IfOk result (IsCubeOf (found_of matches.now)) }
+{
     Ok(CubeCall {
-        limits,
-        pieces: matches.get_one::<u64>("pieces").unwrap_or(1),
+        limits: limits_of(matches),
+        pieces: number_or(matches, "pieces", 1),
         project: needed_name(alloc, matches, "project")?,
         path,
         start: file_name(alloc, matches, "start")?,
@@ -243,12 +271,14 @@ fn cube_of(alloc: Global, matches: &ArgMatches<'_>, path: String) -> Result<Cube
         export: file_name(alloc, matches, "export")?,
         record: needed_name(alloc, matches, "record")?,
         until: file_name(alloc, matches, "until")?,
-        follow: matches.get_flag("follow"),
+        follow: has_flag(matches, "follow"),
     })
 }
 
 /// A search, of a cube if there is a path.
-fn solve_of(alloc: Global, matches: &ArgMatches<'_>) -> Result<Subcommand, AllocError> {
+fn solve_of(alloc: Global, matches: &ArgMatches<'_>) -> Result<Subcommand, AllocError>
+    ensures { IfOk result (IsSolveOf (found_of matches.now)) }
+{
     match file_name(alloc, matches, UNDER)? {
         Some(path) => Ok(Subcommand::Cube(cube_of(alloc, matches, path)?)),
         None => Ok(Subcommand::Solve(search_of(alloc, matches)?)),
@@ -256,10 +286,9 @@ fn solve_of(alloc: Global, matches: &ArgMatches<'_>) -> Result<Subcommand, Alloc
 }
 
 /// What the matches ask for. None if words ask for nothing, which `clap` doesn't let pass.
-fn found_work(
-    alloc: Global,
-    matches: &ArgMatches<'_>,
-) -> Result<Option<Subcommand>, ArgumentsFault> {
+fn found_work(alloc: Global, matches: &ArgMatches<'_>) -> Result<Option<Subcommand>, ArgumentsFault>
+    ensures { IfOk result (λ work. IfSome work (IsWorkOf matches.now)) }
+{
     match matches.subcommand() {
         Some(("solve", found)) => Ok(Some(solve_of(alloc, found)?)),
         Some(("join", found)) => Ok(Some(Subcommand::Solve(join_of(alloc, found)?))),
@@ -267,7 +296,10 @@ fn found_work(
             let project = needed_name(alloc, found, "project")?;
             Ok(Some(Subcommand::Trim(project)))
         }
-        Some(("verify", found)) => Ok(verify_call(alloc, found)?.map(Subcommand::Verify)),
+        Some(("verify", found)) => match verify_call(alloc, found)? {
+            Some(call) => Ok(Some(Subcommand::Verify(call))),
+            None => Ok(None),
+        },
         _ => Ok(None),
     }
 }
