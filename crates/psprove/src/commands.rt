@@ -90,7 +90,8 @@ fn progress<'a>(alloc: Global) -> Arg<'a> {
 fn path_option<'a>(alloc: Global) -> Result<Arg<'a>, AllocError> {
     let under = "Search the cube whose path is in FILE: an arc a line, FROM TO WEIGHT";
     let path = file(alloc, UNDER, under).requires_arg("project")?;
-    path.requires_arg("record")
+    let path = path.requires_arg("record")?.conflicts_with("jobs")?;
+    path.conflicts_with("progress")?.conflicts_with("resume")
 }
 
 /// The options of a search of a cube.
